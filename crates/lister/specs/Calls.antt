@@ -1,0 +1,16 @@
+-- The calls Census and Draw: each takes the description's bytes and first gives what Read refuses.
+use Prim.Native.Nat.{ℕ}
+use mathlib.Core.List.{List}
+use mathlib.Core.Option.{Option}
+use Rattle.rules.specs.Soundness.{read}
+use Rattle.lister.specs.declared.Row.{Row}
+use Rattle.lister.specs.declared.Cursor.{Cursor}
+use Rattle.lister.specs.Rows.{Census, census, draw}
+use Rattle.sequences.specs.Results.{Result, ok, andThen}
+
+unfoldable pub censusCall : List ℕ → Result Census
+censusCall s = andThen (read s) (λ d. ok (census d))
+
+-- none: finished
+unfoldable pub drawCall : List ℕ → Cursor → Result (Option Row)
+drawCall s c = andThen (read s) (λ d. ok (draw d c))

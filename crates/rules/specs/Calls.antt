@@ -1,0 +1,38 @@
+-- The calls Read, Judge and Transfers: each takes the description's bytes and first gives what Read refuses.
+use Prim.Native.Nat.{ℕ}
+use mathlib.Core.Bool.{Bool, cond}
+use mathlib.Core.List.{List, _++_}
+use lib.ListN.{length, drop}
+use lib.Dec.{ltb}
+use Rattle.description.specs.Format.{Description}
+use Rattle.rules.specs.Soundness.{read}
+use Rattle.rules.specs.Placements.{judge}
+use Rattle.rules.specs.Transfers.{transfers, bytesOf}
+use Rattle.sequences.specs.Results.{Result, ok, refused, andThen}
+
+-- the counts of clouds, blocks and edges
+pub record Counts : Type 0 where
+  pub clouds : ℕ
+  pub blocks : ℕ
+  pub edges : ℕ
+
+abbrev pub countsOf : Description → Counts
+countsOf d = record { clouds = length (d .clouds); blocks = length (d .blocks); edges = length (d .edges) }
+
+unfoldable pub readCall : List ℕ → Result Counts
+readCall s = andThen (read s) (λ d. ok (countsOf d))
+
+unfoldable pub judgeCall : List ℕ → List ℕ → Result (Unit {0})
+judgeCall s p = andThen (read s) (λ d. judge d p)
+
+-- the bytes that a buffer of n bytes is to begin with; 16, with the bytes needed: it is too short
+abbrev pub fitted : ℕ → List ℕ → Result (List ℕ)
+fitted n bytes = cond (ltb n (length bytes)) (refused 16 (length bytes)) (ok bytes)
+
+unfoldable pub transfersCall : List ℕ → List ℕ → ℕ → Result (List ℕ)
+transfersCall s p n = andThen (read s) (λ d. andThen (judge d p) (λ secure. fitted n (bytesOf (transfers d p))))
+
+-- what a buffer holds after the call: the bytes written and, beyond them, what stood there; after a refusal, what it held
+abbrev pub bufferAfter : Result (List ℕ) → List ℕ → List ℕ
+bufferAfter (ok bytes) buffer = bytes ++ drop (length bytes) buffer
+bufferAfter (refused number place) buffer = buffer

@@ -1,0 +1,2 @@
+// The security and cost rules, over a description and one placement.
+

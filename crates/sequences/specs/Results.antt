@@ -1,0 +1,18 @@
+-- A value or a refusal: what every call comes to.
+use Prim.Native.Nat.{ℕ}
+use mathlib.Core.Option.{Option, none, some}
+
+-- a value, or a refusal: its number and its place
+pub data Result (A : Type 0) : Type 0 where
+  ok : A → Result A
+  refused : (number place : ℕ) → Result A
+
+-- refused with this number where a place is found, else the rest
+abbrev pub unless : {A : Type 0} → Option ℕ → ℕ → Result A → Result A
+unless (some place) number r = refused number place
+unless none number r = r
+
+-- go on with the value, or pass the refusal on
+abbrev pub andThen : {A B : Type 0} → Result A → (A → Result B) → Result B
+andThen (ok a) f = f a
+andThen (refused number place) f = refused number place
