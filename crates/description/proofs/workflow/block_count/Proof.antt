@@ -1,0 +1,21 @@
+-- What counts is the lesser of the count and the array's length.
+use mathlib.Core.Path.{_≡_}
+use native.Mathlib.Omega.{arith}
+use lib.ListN.{length, length-map}
+use Rattle.description.specs.Meaning.{describes}
+use Rattle.description.proofs.Arrays.{count-short, count-full}
+use Rattle.description.proofs.workflow.block_count.Statement.{statement}
+use Rattle.description.proofs.workflow.block_count.Tie as tie
+
+returns : tie.Need-returns
+unfolding describes
+returns c =
+    (count-short _ (c .before .args .w .blocks) _ (simp length-map at (c .before .good .0 .1 .1 .1 .1 .0 .1 .0 .1)) (c .if1 .taken), omega arith)
+
+returns-2 : tie.Need-returns-2
+unfolding describes
+returns-2 c =
+    (count-full _ (c .before .args .w .blocks) _ (simp length-map at (c .before .good .0 .1 .1 .1 .1 .0 .1 .0 .1)) (c .if1 .left), omega arith)
+
+pub block-count-spec : {M : Type 1} → statement M
+block-count-spec = tie.close (tie.spec returns returns-2)

@@ -1,0 +1,1616 @@
+#!/usr/bin/env python3
+"""A brute-force reference for the placement engine, written from its rules alone.
+
+It follows the definitions and knows no algorithm: decode the bytes, check the
+rules, enumerate the candidates, test each one, group the secure ones by option,
+keep the first of every group, sort.  It shares nothing with what it is compared to.
+
+    bruteforce.py answer [--letters RJT]        cases in, one line for each out
+    bruteforce.py list                          a description in, its rows out
+    bruteforce.py generate [--letters RJT] DIR  write DIR/stdin and DIR/stdout
+    bruteforce.py check [--letters RJT] DIR     are they what would be written today?
+
+Parts: the description; its rules; placements; options and rows; the calls; cases
+and their answers; the cases that are stored; the checks; the command line.
+"""
+
+import argparse
+import functools
+import itertools
+import math
+import random
+import re
+import sys
+from collections import Counter
+from pathlib import Path
+from typing import NamedTuple
+
+
+# ---- The description ------------------------------------------------------------------
+
+END, CLOUD, DATUM, SERVICE, READS, WRITES, PIN = range(7)
+
+WIDTHS = {                      # of the operands of each command, in bytes
+    END: (),
+    CLOUD: (1, 2, 2, 2, 2),
+    DATUM: (1, 2, 2),
+    SERVICE: (1, 1, 4),
+    READS: (1, 1),
+    WRITES: (1, 1),
+    PIN: (1, 1),
+}
+
+MOST_CLOUDS, MOST_BLOCKS, MOST_EDGES, MOST_CANDIDATES = 8, 16, 32, 65536
+HIGHEST = 15                    # for levels, locations and clearances
+
+
+class Refused(Exception):
+    """A refusal, with its number and its place."""
+
+    def __init__(self, number, place):
+        super().__init__(f"refused {number} {place}")
+        self.number = number
+        self.place = place
+
+
+class Cloud(NamedTuple):
+    level: int
+    storage_rate: int
+    in_rate: int
+    out_rate: int
+    cpu_rate: int
+
+
+class Datum(NamedTuple):
+    level: int
+    size: int
+    longevity: int
+
+
+class Service(NamedTuple):
+    location: int
+    clearance: int
+    cpu_units: int
+
+
+class Edge(NamedTuple):
+    command: int                # READS or WRITES
+    service: int
+    datum: int
+
+
+class Description:
+    def __init__(self):
+        self.clouds = []
+        self.blocks = []        # each a Datum or a Service
+        self.edges = []
+        self.pins = {}          # block -> cloud
+
+    def data(self):
+        return [b for b, block in enumerate(self.blocks) if isinstance(block, Datum)]
+
+    def services(self):
+        return [b for b, block in enumerate(self.blocks) if isinstance(block, Service)]
+
+    def writer(self, datum):
+        """The service that writes the datum, or None."""
+        for edge in self.edges:
+            if edge.command == WRITES and edge.datum == datum:
+                return edge.service
+        return None
+
+    def readers(self, datum):
+        """The services that read the datum, in edge order."""
+        return [e.service for e in self.edges if e.command == READS and e.datum == datum]
+
+    def add(self, command, operands):
+        if command == CLOUD:
+            self.clouds.append(Cloud(*operands))
+        elif command == DATUM:
+            self.blocks.append(Datum(*operands))
+        elif command == SERVICE:
+            self.blocks.append(Service(*operands))
+        elif command in (READS, WRITES):
+            self.edges.append(Edge(command, *operands))
+        elif command == PIN:
+            block, cloud = operands
+            self.pins[block] = cloud
+
+
+def one_too_many(described, command):
+    if command == CLOUD:
+        return len(described.clouds) == MOST_CLOUDS
+    if command in (DATUM, SERVICE):
+        return len(described.blocks) == MOST_BLOCKS
+    if command in (READS, WRITES):
+        return len(described.edges) == MOST_EDGES
+    return False
+
+
+def too_high(command, operands):
+    if command in (CLOUD, DATUM):
+        return operands[0] > HIGHEST
+    if command == SERVICE:
+        return operands[0] > HIGHEST or operands[1] > HIGHEST
+    return False
+
+
+def misnamed(described, command, operands):
+    if command in (READS, WRITES):
+        service, datum = operands
+        return service not in described.services() or datum not in described.data()
+    if command == PIN:
+        block, cloud = operands
+        return block >= len(described.blocks) or cloud >= len(described.clouds)
+    return False
+
+
+def said_before(described, command, operands):
+    if command in (READS, WRITES):
+        repeated = Edge(command, *operands) in described.edges
+        written = command == WRITES and described.writer(operands[1]) is not None
+        return repeated or written
+    if command == PIN:
+        return operands[0] in described.pins
+    return False
+
+
+def fault(described, command, operands):
+    """The number of the first thing wrong with a complete command, or None."""
+    if one_too_many(described, command):
+        return 4
+    if too_high(command, operands):
+        return 5
+    if misnamed(described, command, operands):
+        return 6
+    if said_before(described, command, operands):
+        return 7
+    return None
+
+
+def split(operands, widths):
+    """The operands as numbers, most significant byte first."""
+    numbers = []
+    for width in widths:
+        numbers.append(int.from_bytes(operands[:width], "big"))
+        operands = operands[width:]
+    return numbers
+
+
+def decode(text):
+    """The description that the bytes spell; refuses with 1 to 8."""
+    described = Description()
+    at = 0
+    ended = False
+    while not ended:
+        if at == len(text):
+            raise Refused(1, at)
+        command = text[at]
+        if command not in WIDTHS:
+            raise Refused(2, at)
+        after = at + 1 + sum(WIDTHS[command])
+        if after > len(text):
+            raise Refused(1, at)
+        operands = split(text[at + 1:after], WIDTHS[command])
+        number = fault(described, command, operands)
+        if number is not None:
+            raise Refused(number, at)
+        described.add(command, operands)
+        ended = command == END
+        at = after
+    if at < len(text):
+        raise Refused(3, at)
+    if not described.clouds or not described.blocks:
+        raise Refused(8, len(text))
+    return described
+
+
+# ---- Its rules ------------------------------------------------------------------------
+
+def covers(upper, lower):
+    """The one comparison of levels."""
+    return upper >= lower
+
+
+def level(block):
+    """What a cloud must cover to carry the block."""
+    return block.level if isinstance(block, Datum) else block.location
+
+
+def keeps_rule_2(service):
+    return covers(service.clearance, service.location)
+
+
+def keeps_rule_3(described, edge):
+    service, datum = described.blocks[edge.service], described.blocks[edge.datum]
+    return edge.command != READS or covers(service.clearance, datum.level)
+
+
+def keeps_rule_4(described, edge):
+    service, datum = described.blocks[edge.service], described.blocks[edge.datum]
+    return edge.command != WRITES or covers(datum.level, service.location)
+
+
+def may_stand(described, block, cloud):
+    """Rule 7 and the pin of one block; the cloud may be any number."""
+    return (cloud < len(described.clouds)
+            and covers(described.clouds[cloud].level, level(described.blocks[block]))
+            and described.pins.get(block, cloud) == cloud)
+
+
+def allowed(described, block):
+    return [k for k in range(len(described.clouds)) if may_stand(described, block, k)]
+
+
+def count_candidates(described):
+    """Blocks choose freely of each other, so their choices multiply."""
+    return math.prod(len(allowed(described, b)) for b in range(len(described.blocks)))
+
+
+def check_workflow(described):
+    """Refuses with 9 to 12, each number over the whole description before the next."""
+    for b in described.services():
+        if not keeps_rule_2(described.blocks[b]):
+            raise Refused(9, b)
+    for e, edge in enumerate(described.edges):
+        if not keeps_rule_3(described, edge):
+            raise Refused(10, e)
+    for e, edge in enumerate(described.edges):
+        if not keeps_rule_4(described, edge):
+            raise Refused(11, e)
+    if count_candidates(described) > MOST_CANDIDATES:
+        raise Refused(12, 0)
+
+
+# ---- Placements: sixteen bytes --------------------------------------------------------
+
+def candidates(described):
+    """Every candidate, as sixteen bytes."""
+    choices = [allowed(described, b) for b in range(len(described.blocks))]
+    for clouds in itertools.product(*choices):
+        yield bytes(clouds).ljust(16, b"\0")
+
+
+def bad_position(described, placement):
+    """The lowest position that keeps the placement from being a candidate, or None."""
+    for position, cloud in enumerate(placement):
+        if position < len(described.blocks):
+            good = may_stand(described, position, cloud)
+        else:
+            good = cloud == 0
+        if not good:
+            return position
+    return None
+
+
+def ends(edge, placement):
+    """The clouds between which the edge moves its datum: from, to."""
+    service, datum = placement[edge.service], placement[edge.datum]
+    return (datum, service) if edge.command == READS else (service, datum)
+
+
+def first_broken(described, placement, command):
+    """The first edge of this command whose copy would lie too low, or None.
+
+    With READS this is rule 16, with WRITES rule 17: either way the copy
+    lies with the service, and the datum's level is what counts.
+    """
+    for e, edge in enumerate(described.edges):
+        if edge.command == command:
+            source, destination = ends(edge, placement)
+            copy_level = described.clouds[placement[edge.service]].level
+            datum_level = described.blocks[edge.datum].level
+            if source != destination and not covers(copy_level, datum_level):
+                return e
+    return None
+
+
+def check_placement(described, placement):
+    """Refuses with 13, 14 or 15; a placement that passes is secure."""
+    position = bad_position(described, placement)
+    if position is not None:
+        raise Refused(13, position)
+    for number, command in ((14, READS), (15, WRITES)):
+        edge = first_broken(described, placement, command)
+        if edge is not None:
+            raise Refused(number, edge)
+
+
+def moves(described, placement):
+    """The transfers as (edge, datum, source, destination), in edge order."""
+    found = []
+    for e, edge in enumerate(described.edges):
+        source, destination = ends(edge, placement)
+        if source != destination:
+            found.append((e, edge.datum, source, destination))
+    return found
+
+
+def gigabytes(size):
+    """Tenths of a gigabyte, charged by the whole one."""
+    return (size + 9) // 10
+
+
+def cost(described, placement):
+    total = 0
+    for b, block in enumerate(described.blocks):
+        cloud = described.clouds[placement[b]]
+        if isinstance(block, Datum):
+            total += cloud.storage_rate * gigabytes(block.size) * block.longevity
+        else:
+            total += cloud.cpu_rate * block.cpu_units
+    for _, datum, source, destination in moves(described, placement):
+        rate = described.clouds[source].out_rate + described.clouds[destination].in_rate
+        total += rate * gigabytes(described.blocks[datum].size)
+    return total
+
+
+# ---- Options and rows -----------------------------------------------------------------
+
+def stem_and_branches(described, placement, datum):
+    home = placement[datum]
+    writer = described.writer(datum)
+    stem = (home,)
+    if writer is not None and placement[writer] != home:
+        stem = (placement[writer], home)
+    branches = tuple((placement[reader],) if placement[reader] != home else ()
+                     for reader in described.readers(datum))
+    if len(branches) == 1:
+        # A lone branch continues the stem and is not compared by itself.
+        return stem + branches[0], ()
+    return stem, branches
+
+
+def option(described, placement):
+    """Equal for two secure placements exactly when they are the same option."""
+    return (tuple(placement[s] for s in described.services()),
+            tuple(stem_and_branches(described, placement, d) for d in described.data()))
+
+
+def is_secure(described, placement):
+    try:
+        check_placement(described, placement)
+    except Refused:
+        return False
+    return True
+
+
+def rows_of(described):
+    """The rows as (cost, placement), in the order in which they are drawn."""
+    groups = {}
+    for placement in candidates(described):
+        if is_secure(described, placement):
+            row = (cost(described, placement), placement)
+            groups.setdefault(option(described, placement), []).append(row)
+    return sorted(min(group) for group in groups.values())
+
+
+# ---- The calls ------------------------------------------------------------------------
+
+@functools.lru_cache(maxsize=64)
+def read(text):
+    described = decode(text)
+    check_workflow(described)
+    return described
+
+
+def judge(text, placement):
+    check_placement(read(text), placement)
+
+
+class Census(NamedTuple):
+    candidates: int
+    breaking_16: int
+    breaking_17_only: int
+    secure: int
+    options: int
+
+
+def census(text):
+    described = read(text)
+    every = breaking_16 = breaking_17_only = secure = 0
+    options = set()
+    for placement in candidates(described):
+        every += 1
+        if first_broken(described, placement, READS) is not None:
+            breaking_16 += 1
+        elif first_broken(described, placement, WRITES) is not None:
+            breaking_17_only += 1
+        else:
+            secure += 1
+            options.add(option(described, placement))
+    return Census(every, breaking_16, breaking_17_only, secure, len(options))
+
+
+@functools.lru_cache(maxsize=8)
+def rows(text):
+    return rows_of(read(text))
+
+
+def draw(text, cursor):
+    """The first row later than the cursor, or None; the cursor None is the start."""
+    for row in rows(text):
+        if cursor is None or row > cursor:
+            return row
+    return None
+
+
+def transfers(text, placement, buffer):
+    """Fills the buffer from its beginning and returns the number of transfers."""
+    described = read(text)
+    check_placement(described, placement)
+    found = moves(described, placement)
+    needed = 4 * len(found)
+    if len(buffer) < needed:
+        raise Refused(16, needed)
+    buffer[:needed] = bytes(itertools.chain.from_iterable(found))
+    return len(found)
+
+
+def listing(text):
+    """The lines of the program that lists a description's rows."""
+    try:
+        found = rows(text)
+    except Refused as refusal:
+        return [str(refusal)]
+    blocks = len(read(text).blocks)
+    lines = [f"{price} {digits(placement[:blocks])}" for price, placement in found]
+    return lines + [f"options {len(found)}"]
+
+
+def digits(placement):
+    return "".join(str(cloud) for cloud in placement)
+
+
+# ---- Cases and their answers ----------------------------------------------------------
+
+LETTERS = "RJCDT"
+MOST_ROOM = 1024                # bytes of a lent buffer
+FILLER = 0xA5                   # what a lent buffer holds before the call
+
+
+class BadCase(Exception):
+    """What is read is not a case."""
+
+
+class Tape:
+    """The bytes of a file of cases, taken from the front."""
+
+    def __init__(self, content):
+        self.content = content
+        self.at = 0
+
+    def ended(self):
+        return self.at == len(self.content)
+
+    def take(self, count):
+        if self.at + count > len(self.content):
+            raise BadCase
+        self.at += count
+        return self.content[self.at - count:self.at]
+
+    def number(self, width):
+        return int.from_bytes(self.take(width), "big")
+
+
+# Each answer takes its operands off the tape before it calls, for a call may refuse.
+
+def answer_read(text, tape):
+    described = read(text)
+    return f"accepted {len(described.clouds)} {len(described.blocks)} {len(described.edges)}"
+
+
+def answer_judge(text, tape):
+    placement = tape.take(16)
+    judge(text, placement)
+    return "secure"
+
+
+def answer_census(text, tape):
+    return "census " + " ".join(str(count) for count in census(text))
+
+
+def answer_draw(text, tape):
+    kind, price, placement = tape.number(1), tape.number(8), tape.take(16)
+    if kind > 1:
+        raise BadCase
+    row = draw(text, (price, placement) if kind == 1 else None)
+    return "finished" if row is None else f"row {row[0]} {digits(row[1])}"
+
+
+def answer_transfers(text, tape):
+    placement, room = tape.take(16), tape.number(2)
+    if room > MOST_ROOM:
+        raise BadCase
+    buffer = bytearray([FILLER] * room)
+    try:
+        words = f"transfers {transfers(text, placement, buffer)}"
+    except Refused as refusal:
+        words = str(refusal)
+    return with_buffer(words, buffer)
+
+
+def with_buffer(words, buffer):
+    return f"{words} {buffer.hex()}" if buffer else words
+
+
+ANSWERS = {"R": answer_read, "J": answer_judge, "C": answer_census,
+           "D": answer_draw, "T": answer_transfers}
+
+
+def answer_one(tape, letters):
+    letter = chr(tape.number(1))
+    if letter not in letters:
+        raise BadCase
+    text = tape.take(tape.number(2))
+    try:
+        return ANSWERS[letter](text, tape)
+    except Refused as refusal:
+        return str(refusal)
+
+
+def answer_all(content, letters):
+    """One line for each case; what is no case ends the list."""
+    tape = Tape(content)
+    lines = []
+    while not tape.ended():
+        try:
+            lines.append(answer_one(tape, letters))
+        except BadCase:
+            return lines + ["bad case"]
+    return lines
+
+
+# ---- The stored cases: building blocks ------------------------------------------------
+
+class Case(NamedTuple):
+    content: bytes
+    expected: str | None        # the answer worked out by hand, where there is one
+
+
+class Dice:
+    """Chance from Random.random alone, whose sequence Python promises to keep."""
+
+    def __init__(self, seed):
+        self.random = random.Random(seed).random
+
+    def below(self, limit):
+        return int(self.random() * limit)
+
+    def between(self, low, high):
+        return low + self.below(high - low + 1)
+
+    def choice(self, items):
+        return items[self.below(len(items))]
+
+    def one_in(self, times):
+        return self.below(times) == 0
+
+    def bytes(self, count):
+        return bytes(self.below(256) for _ in range(count))
+
+
+def encode(command, *operands):
+    pairs = zip(operands, WIDTHS[command], strict=True)
+    return bytes([command]) + b"".join(value.to_bytes(width, "big") for value, width in pairs)
+
+
+def cloud(height=0, storage=0, inward=0, outward=0, cpu=0):
+    return encode(CLOUD, height, storage, inward, outward, cpu)
+
+
+def datum(height=0, size=0, longevity=0):
+    return encode(DATUM, height, size, longevity)
+
+
+def service(location=0, clearance=0, units=0):
+    return encode(SERVICE, location, clearance, units)
+
+
+def reads(by, what):
+    return encode(READS, by, what)
+
+
+def writes(by, what):
+    return encode(WRITES, by, what)
+
+
+def pin(block, to):
+    return encode(PIN, block, to)
+
+
+STOP = encode(END)
+
+
+def with_length(letter, text):
+    return letter + len(text).to_bytes(2, "big") + text
+
+
+def read_case(text, expected=None):
+    return Case(with_length(b"R", text), expected)
+
+
+def judge_case(text, placement, expected=None):
+    return Case(with_length(b"J", text) + placement, expected)
+
+
+def transfers_case(text, placement, room, expected=None):
+    return Case(with_length(b"T", text) + placement + room.to_bytes(2, "big"), expected)
+
+
+def refused(text, number, place):
+    return read_case(text, f"refused {number} {place}")
+
+
+def accepted(text, clouds, blocks, edges):
+    return read_case(text, f"accepted {clouds} {blocks} {edges}")
+
+
+def refused_at_each(number, before, *commands):
+    """Each command is at fault where it follows `before`, whatever comes after it."""
+    for command in commands:
+        yield refused(before + command + STOP, number, len(before))
+    yield refused(before + commands[0] + b"\xff\xff" + STOP, number, len(before))
+
+
+def placed(*clouds):
+    return bytes(clouds).ljust(16, b"\0")
+
+
+M_COMMANDS = [bytes.fromhex(command) for command in (
+    "01 00 000A 000A 000A 000A", "01 01 000A 000A 000A 000A",
+    "02 01 0064 000C", "03 00 01 00000064", "02 00 0032 0000", "03 00 00 00000032",
+    "02 00 000A 000C", "04 01 00", "05 01 02", "04 03 02", "05 03 04", "00")]
+M = b"".join(M_COMMANDS)
+
+# Sound beginnings, all without their 00.
+PAIR = cloud(1) + datum(1) + service(0, 1)                 # block 0 a datum, 1 a service
+TRIO = PAIR + service(1, 1)                                # and 2 a second service
+EIGHT_CLOUDS = b"".join(cloud(height) for height in range(8))
+SIXTEEN_BLOCKS = cloud() + cloud() + datum() * 8 + service() * 8
+SIXTEEN_PINS = b"".join(pin(block, block % 2) for block in range(16))
+# Services 8 to 11 read all of 0 to 7.
+THIRTY_TWO_EDGES = SIXTEEN_BLOCKS + b"".join(reads(8 + e // 8, e % 8) for e in range(32))
+# Services 8 to 10 read all of 0 to 7, and 11 to 14 write two of them each.
+MIXED_EDGES = (SIXTEEN_BLOCKS + b"".join(reads(8 + e // 8, e % 8) for e in range(24))
+               + b"".join(writes(11 + e // 2, e) for e in range(8)))
+# No sound description is longer: thirteen services and three data still give 32 edges.
+LONGEST = (EIGHT_CLOUDS + datum() * 3 + service(0, 0) * 13
+           + b"".join(reads(3 + e // 3, e % 3) for e in range(32))
+           + b"".join(pin(block, block % 8) for block in range(16)) + STOP)
+
+# A sound description whose commands come mixed, with pins of both kinds of block.
+MIXED_COMMANDS = [
+    datum(2, 7, 3), cloud(3, 1, 2, 3, 4), service(1, 2, 9), pin(0, 0), reads(1, 0),
+    cloud(2, 4, 3, 2, 1), datum(1, 11, 65535), writes(1, 2), service(0, 1, 0xFFFFFFFF),
+    pin(3, 1), cloud(0, 65535, 65535, 65535, 65535), reads(3, 2), writes(1, 0), reads(1, 2),
+    datum(0, 65535, 1), writes(3, 4), pin(4, 2), STOP]
+
+
+def ruled(*edges):
+    """Data at levels 0 to 3 as blocks 0 to 3, and service 4 at location 1, clearance 2."""
+    return (cloud(15) + datum(0) + datum(1) + datum(2) + datum(3) + service(1, 2)
+            + b"".join(edges))
+
+
+def counted(choices, *pins):
+    """As many blocks as choices, each free to stand on that many of eight clouds."""
+    return (EIGHT_CLOUDS + b"".join(datum(8 - choice) for choice in choices)
+            + b"".join(pins) + STOP)
+
+
+# For each number of Read, a description it refuses, and the place.
+REFUSED_BY_READ = [
+    (M[:40], 1, 39), (M[:-1], 1, 64), (b"", 1, 0),
+    (M[:52] + b"\x07" + M[52:], 2, 52),
+    (M + b"\0", 3, 65),
+    (EIGHT_CLOUDS + cloud() + datum() + STOP, 4, 80),
+    (SIXTEEN_BLOCKS + datum() + STOP, 4, 124),
+    (THIRTY_TWO_EDGES + reads(15, 0) + STOP, 4, 220),
+    (PAIR + datum(16) + STOP, 5, 23),
+    (PAIR + reads(0, 1) + STOP, 6, 23),
+    (PAIR + pin(0, 0) + pin(0, 0) + STOP, 7, 26),
+    (STOP, 8, 1), (cloud() + STOP, 8, 11), (datum() + STOP, 8, 7),
+    (PAIR + service(2, 1) + STOP, 9, 2),
+    (ruled(reads(4, 0), reads(4, 3)) + STOP, 10, 1),
+    (ruled(writes(4, 1), reads(4, 1), writes(4, 0)) + STOP, 11, 2),
+    (cloud() * 3 + datum() * 11 + STOP, 12, 0),
+]
+
+
+# ---- The stored cases: Read -----------------------------------------------------------
+
+ONE_OF_EACH = [cloud(1, 2, 3, 4, 5), datum(1, 2, 3), service(1, 1, 2), reads(1, 0),
+               writes(1, 0), pin(0, 0)]
+
+
+def cut_at_each_length(commands):
+    """A sound description cut short: the command in which it ends, or its end, is named."""
+    text = b"".join(commands)
+    starts = [len(b"".join(commands[:i])) for i in range(len(commands))]
+    for length in range(len(text)):
+        yield refused(text[:length], 1, max(start for start in starts if start <= length))
+
+
+def read_cut_short():
+    for before in (b"", PAIR, service(5, 1)):
+        for command in ONE_OF_EACH:
+            for length in range(1, len(command)):
+                yield refused(before + command[:length], 1, len(before))
+    for text in (PAIR, TRIO, EIGHT_CLOUDS, SIXTEEN_BLOCKS, THIRTY_TWO_EDGES, LONGEST[:-1]):
+        yield refused(text, 1, len(text))
+    yield from cut_at_each_length(M_COMMANDS)
+    yield from cut_at_each_length(MIXED_COMMANDS)
+
+
+def read_cut_short_and_at_fault():
+    """A command that ends too early is that, however bad its other bytes are."""
+    for before, command in (
+            (EIGHT_CLOUDS, cloud()), (EIGHT_CLOUDS, cloud(16)), (PAIR, cloud(255)),
+            (SIXTEEN_BLOCKS, datum()), (SIXTEEN_BLOCKS, service(16, 16)),
+            (PAIR, datum(16)), (PAIR, service(16, 0)), (PAIR, service(0, 255)),
+            (THIRTY_TWO_EDGES, reads(15, 7)), (THIRTY_TWO_EDGES, writes(255, 255)),
+            (PAIR, reads(0, 1)), (PAIR, writes(9, 9)), (PAIR, pin(7, 7)), (PAIR, pin(0, 9)),
+            (PAIR + reads(1, 0), reads(1, 0)), (PAIR + writes(1, 0), writes(1, 0)),
+            (PAIR + pin(1, 0), pin(1, 0))):
+        for length in range(1, len(command)):
+            yield refused(before + command[:length], 1, len(before))
+
+
+def read_unknown():
+    for code in (*range(7, 17), 0x20, 0x40, 0x7F, 0x80, 0xA5, 0xFE, 0xFF):
+        for before in (b"", PAIR, M[:-1]):
+            yield refused(before + bytes([code]), 2, len(before))
+        yield refused(PAIR + bytes([code]) + STOP, 2, len(PAIR))
+    for before in (EIGHT_CLOUDS, SIXTEEN_BLOCKS, THIRTY_TWO_EDGES, LONGEST[:-1], M[:52]):
+        yield refused(before + b"\x07", 2, len(before))
+        yield refused(before + b"\xff" + M, 2, len(before))
+
+
+def read_past_the_end():
+    for tail in (b"\0", b"\1", b"\7", b"\xff", b"\0\0", M, cloud(), STOP * 40, b"\xff" * 300):
+        yield refused(M + tail, 3, len(M))
+        yield refused(STOP + tail, 3, 1)
+    unsound = [cloud() + STOP, datum() + STOP]             # 3 is looked for before 8 to 12
+    unsound += [text for text, number, _ in REFUSED_BY_READ if number >= 8]
+    for text in unsound + [LONGEST]:
+        yield refused(text + b"\0", 3, len(text))
+        yield refused(text + M, 3, len(text))
+    for length in (1000, 3000, 7000, 10000):
+        yield refused(M + bytes(i % 251 for i in range(length)), 3, len(M))
+    yield refused(M + M * 20, 3, len(M))
+    yield refused(b"\7" + b"\0" * 2000, 2, 0)
+    yield refused(EIGHT_CLOUDS + cloud() * 150, 4, len(EIGHT_CLOUDS))
+    yield refused(PAIR + pin(0, 0) * 500, 7, len(PAIR) + 3)
+    yield refused(M.ljust(65535, b"\0"), 3, len(M))        # the longest a case can hold
+
+
+def read_limits():
+    yield accepted(EIGHT_CLOUDS + datum() + STOP, 8, 1, 0)
+    yield accepted(service() + EIGHT_CLOUDS + STOP, 8, 1, 0)
+    yield accepted(SIXTEEN_BLOCKS + STOP, 2, 16, 0)
+    yield accepted(SIXTEEN_BLOCKS + SIXTEEN_PINS + STOP, 2, 16, 0)
+    yield accepted(THIRTY_TWO_EDGES + STOP, 2, 16, 32)
+    yield accepted(THIRTY_TWO_EDGES + SIXTEEN_PINS + STOP, 2, 16, 32)
+    yield accepted(MIXED_EDGES + STOP, 2, 16, 32)
+    yield accepted(LONGEST, 8, 16, 32)
+    yield accepted(cloud() + datum() * 16 + STOP, 1, 16, 0)
+    yield accepted(cloud() + service() * 16 + STOP, 1, 16, 0)
+    yield accepted(THIRTY_TWO_EDGES[:-3] + STOP, 2, 16, 31)
+    for before in (EIGHT_CLOUDS, EIGHT_CLOUDS + datum(), LONGEST[:-1]):
+        yield from refused_at_each(4, before, cloud(), cloud(15), cloud(16), cloud(255))
+    for before in (SIXTEEN_BLOCKS, LONGEST[:-1], datum() * 16, service() * 16):
+        yield from refused_at_each(4, before, datum(), service(), datum(16), datum(255),
+                                   service(16, 0), service(0, 16), service(2, 1))
+    for before in (THIRTY_TWO_EDGES, MIXED_EDGES):
+        yield from refused_at_each(
+            4, before, reads(15, 7), writes(15, 7),        # these two names are sound
+            reads(8, 0), writes(11, 0),                    # said before
+            reads(0, 8), reads(16, 0), writes(15, 16), writes(255, 255))
+
+
+def read_heights():
+    for height in (0, 1, 14, 15):
+        yield accepted(cloud(height) + datum(height) + STOP, 1, 1, 0)
+        yield accepted(cloud(height) + service(height, height) + STOP, 1, 1, 0)
+        yield accepted(cloud(15) + service(height, 15) + STOP, 1, 1, 0)
+    for height in (16, 17, 31, 32, 127, 128, 255):
+        for before in (b"", PAIR, M[:-1]):
+            yield from refused_at_each(5, before, cloud(height), datum(height),
+                                       service(height, 0), service(0, height),
+                                       service(height, height))
+    for before in (EIGHT_CLOUDS, EIGHT_CLOUDS + datum() * 15):
+        yield from refused_at_each(5, before, datum(16), service(15, 16), service(16, 15))
+
+
+def read_names():
+    yield from refused_at_each(6, b"", reads(0, 0), writes(0, 0), pin(0, 0))
+    for edge in (reads, writes):
+        yield from refused_at_each(
+            6, PAIR, edge(0, 1), edge(0, 0), edge(1, 1),   # wrong kinds
+            edge(2, 0), edge(1, 2), edge(15, 0), edge(1, 15), edge(16, 0), edge(1, 16),
+            edge(255, 0), edge(1, 255), edge(255, 255), edge(0, 255), edge(255, 1))
+        # Declared, but only later.
+        yield refused(cloud() + service() + edge(0, 1) + datum() + STOP, 6, 17)
+        yield refused(cloud() + datum() + edge(1, 0) + service() + STOP, 6, 16)
+        yield refused(cloud() + edge(1, 0) + datum() + service() + STOP, 6, 10)
+        yield from refused_at_each(6, SIXTEEN_BLOCKS, edge(7, 8), edge(16, 0), edge(8, 8))
+        yield from refused_at_each(6, cloud() * 5, edge(1, 0), edge(0, 0))
+        yield accepted(SIXTEEN_BLOCKS + edge(15, 0) + edge(8, 7) + STOP, 2, 16, 2)
+    yield from refused_at_each(6, PAIR, pin(2, 0), pin(0, 1), pin(1, 1), pin(2, 1), pin(16, 0),
+                               pin(0, 8), pin(255, 0), pin(0, 255), pin(255, 255))
+    yield refused(datum() + pin(0, 0) + cloud() + STOP, 6, 6)
+    yield refused(cloud() + pin(0, 0) + datum() + STOP, 6, 10)
+    yield refused(cloud() + datum() + pin(0, 1) + cloud() + STOP, 6, 16)
+    yield refused(cloud() + datum() + pin(1, 0) + service() + STOP, 6, 16)
+    yield refused(EIGHT_CLOUDS + datum() + pin(1, 7) + STOP, 6, 86)
+    yield refused(EIGHT_CLOUDS + datum() + pin(0, 8) + STOP, 6, 86)
+    yield accepted(EIGHT_CLOUDS + datum() + pin(0, 7) + STOP, 8, 1, 0)
+
+
+def read_repeats():
+    yield accepted(PAIR + reads(1, 0) + writes(1, 0) + STOP, 1, 2, 2)
+    yield accepted(PAIR + writes(1, 0) + reads(1, 0) + STOP, 1, 2, 2)
+    yield accepted(TRIO + reads(1, 0) + reads(2, 0) + writes(2, 0) + STOP, 1, 3, 3)
+    yield accepted(TRIO + pin(0, 0) + pin(2, 0) + pin(1, 0) + STOP, 1, 3, 0)
+    for between in (b"", service(0, 0), cloud(3), reads(2, 0), pin(1, 0), datum(4)):
+        yield from refused_at_each(7, TRIO + reads(1, 0) + between, reads(1, 0))
+        yield from refused_at_each(7, TRIO + writes(1, 0) + between, writes(1, 0), writes(2, 0))
+    for block in (0, 1):
+        yield from refused_at_each(7, PAIR + cloud(2) + pin(block, 0), pin(block, 0),
+                                   pin(block, 1))
+        yield from refused_at_each(7, PAIR + cloud(2) + pin(block, 1) + pin(1 - block, 0),
+                                   pin(block, 0), pin(block, 1), pin(1 - block, 1))
+    # A wrong name is looked for before a repetition.
+    yield from refused_at_each(6, TRIO + writes(1, 0), writes(0, 0), writes(3, 0), writes(255, 0))
+    yield from refused_at_each(6, TRIO + pin(0, 0), pin(0, 1), pin(0, 8), pin(0, 255))
+
+
+def read_nothing_there():
+    for text in (b"", cloud(), cloud(15), EIGHT_CLOUDS, datum(), service(), datum() * 16,
+                 service() * 16, service(2, 1), datum() + service() + reads(1, 0),
+                 datum() + service() + writes(1, 0),
+                 datum(3) + service(2, 2) + reads(1, 0) + writes(1, 0)):
+        yield refused(text + STOP, 8, len(text) + 1)
+
+
+def read_rules():
+    for broken in ({0}, {3}, {5}, {1, 4}, {0, 5}, {2, 3, 4}, set(range(6))):
+        services = b"".join(service(2, 1 if s in broken else 2) for s in range(6))
+        yield refused(cloud(2) + services + STOP, 9, min(broken))
+        yield refused(cloud(2) + datum() + services + STOP, 9, min(broken) + 1)
+        yield refused(datum() * 10 + services + cloud() + STOP, 9, min(broken) + 10)
+    for location, clearance in ((1, 0), (15, 0), (15, 14), (8, 7)):
+        yield refused(cloud() + service(location, clearance) + STOP, 9, 0)
+        yield refused(cloud() * 8 + datum() * 15 + service(location, clearance) + STOP, 9, 15)
+    keep = [reads(4, 0), reads(4, 1), reads(4, 2), writes(4, 1), writes(4, 2), writes(4, 3)]
+    yield accepted(ruled(*keep) + STOP, 1, 5, 6)
+    for count in range(7):                                 # how many sound edges come first
+        first = keep[:count]
+        yield refused(ruled(*first, reads(4, 3)) + STOP, 10, count)
+        yield refused(ruled(*first, writes(4, 0)) + STOP, 11, count)
+        yield refused(ruled(*first, writes(4, 0), reads(4, 3)) + STOP, 10, count + 1)
+        yield refused(ruled(*first, reads(4, 3), writes(4, 0)) + STOP, 10, count)
+        yield refused(ruled(*first, reads(4, 3), service(1, 0)) + STOP, 9, 5)
+        yield refused(ruled(*first, writes(4, 0), service(2, 1)) + STOP, 9, 5)
+    twice = [service(1, 2), datum(3), datum(0)]            # blocks 5, 6 and 7
+    yield refused(ruled(*twice, reads(5, 6), reads(4, 3)) + STOP, 10, 0)
+    yield refused(ruled(*twice, reads(5, 0), reads(5, 6), reads(4, 3)) + STOP, 10, 1)
+    yield refused(ruled(*twice, writes(5, 7), writes(4, 0)) + STOP, 11, 0)
+    yield refused(ruled(*twice, writes(5, 6), writes(5, 7), writes(4, 0)) + STOP, 11, 1)
+    # Too many candidates is looked for last.
+    crowd = cloud(15) * 7 + datum() * 11
+    yield refused(crowd + STOP, 12, 0)
+    yield refused(crowd + service(1, 0) + STOP, 9, 11)
+    yield refused(crowd + datum(3) + service(1, 2) + reads(12, 11) + STOP, 10, 0)
+    yield refused(crowd + service(1, 2) + writes(11, 0) + STOP, 11, 0)
+    yield refused(crowd + service(1, 2) + reads(11, 0) + STOP, 12, 0)
+
+
+def read_candidate_counts():
+    # Exactly as many as are allowed, or the nearest number below.
+    for choices in ([2] * 16, [4] * 8, [8] * 5 + [2], [2] + [8] * 5, [8, 8, 4, 4, 4, 4, 4],
+                    [4] * 8 + [1] * 8, [1] * 4 + [2] * 10 + [8] * 2,
+                    [7] * 4 + [3] * 3, [3] * 10, [6] * 6, [5] * 6, [1] * 16, [8]):
+        yield read_counted(choices)
+    # The nearest number above, and others.
+    for choices in ([5] + [3] * 8 + [2], [3] * 8 + [2, 5], [7] + [5] * 5 + [3], [3] * 11,
+                    [2] * 15 + [3], [3] + [2] * 15, [8] * 5 + [3], [8] * 6, [4] * 8 + [2],
+                    [8] * 16, [7] * 16, [2] * 15 + [4], [6] * 7, [5] * 7):
+        yield read_counted(choices)
+    # A block with nowhere to stand leaves no candidates, wherever it comes.
+    for choices in ([0], [0] * 16, [0] + [8] * 15, [8] * 15 + [0], [8] * 7 + [0] + [8] * 8):
+        yield read_counted(choices)
+    # A pinned block has one choice, or none where its cloud lies too low.
+    yield accepted(counted([3] * 11, pin(4, 7)), 8, 11, 0)
+    yield refused(counted([3] * 12, pin(11, 7)), 12, 0)
+    yield accepted(counted([3] * 12, pin(0, 7), pin(11, 6)), 8, 12, 0)
+    yield accepted(counted([8] * 16, *(pin(b, b % 8) for b in range(11))), 8, 16, 0)
+    yield refused(counted([8] * 16, *(pin(b, b % 8) for b in range(10))), 12, 0)
+    yield accepted(counted([8] * 15 + [3], pin(15, 0)), 8, 16, 0)
+    yield accepted(counted([3] + [8] * 15, pin(0, 4)), 8, 16, 0)
+    yield accepted(counted([8] * 5 + [2, 2], pin(6, 7)), 8, 7, 0)
+    yield accepted(cloud() * 2 + service() * 16 + STOP, 2, 16, 0)
+    yield accepted(cloud() * 3 + service() * 10 + STOP, 3, 10, 0)
+    yield refused(cloud() * 3 + service() * 11 + STOP, 12, 0)
+    # Only the location of a service counts for where it may stand.
+    yield accepted(cloud(0) * 3 + service(1, 15) + service(0, 15) * 15 + STOP, 3, 16, 0)
+    yield refused(cloud(0) * 3 + service(0, 15) * 11 + STOP, 12, 0)
+    yield accepted(cloud() + datum(1) + STOP, 1, 1, 0)
+
+
+def read_counted(choices):
+    text = counted(choices)
+    if math.prod(choices) > MOST_CANDIDATES:
+        return refused(text, 12, 0)
+    return accepted(text, 8, len(choices), 0)
+
+
+def read_first_fault_decides():
+    faults = [(2, b"\x09"), (5, cloud(16)), (5, service(0, 16)), (6, reads(0, 0)),
+              (6, pin(0, 7)), (7, reads(1, 0)), (7, pin(1, 0))]
+    before = PAIR + reads(1, 0) + pin(1, 0)
+    for (number, command), (_, later) in itertools.permutations(faults, 2):
+        yield refused(before + command + later + STOP, number, len(before))
+    for number, command in faults:
+        yield refused(before + command, number, len(before))           # no 00 after it
+        yield refused(before + command + cloud()[:4], number, len(before))
+        yield refused(before + service(9, 1) + command + STOP + M, number, len(before) + 7)
+
+
+def read_single_services():
+    """Shapes that must be accepted: cycles, services that write nothing or do nothing."""
+    yield accepted(PAIR + reads(1, 0) + STOP, 1, 2, 1)
+    yield accepted(PAIR + STOP, 1, 2, 0)
+    cycle = cloud() + datum() + service() + datum() + service()
+    yield accepted(cycle + reads(1, 0) + writes(1, 2) + reads(3, 2) + writes(3, 0) + STOP, 1, 4, 4)
+    yield accepted(M, 2, 5, 4)
+    yield accepted(b"".join(MIXED_COMMANDS), 3, 5, 6)
+
+
+# Random descriptions.
+
+def random_workflow(dice):
+    """A workflow that keeps every rule, with a fair spread of levels, pins and edges."""
+    made = Description()
+    top = dice.choice((0, 1, 1, 2, 2, 3, 5, 15))
+    made.clouds = [random_cloud(dice, top) for _ in range(dice.choice((1, 2, 2, 3, 3, 4, 5, 8)))]
+    highest = max(each.level for each in made.clouds)
+    made.blocks = [random_block(dice, highest)
+                   for _ in range(dice.choice((1, 2, 3, 4, 5, 6, 7, 8, 9, 10, 12, 16)))]
+    add_random_edges(dice, made)
+    add_random_pins(dice, made)
+    return made
+
+
+def random_number(dice, most):
+    return dice.choice((0, 1, 2, 9, 10, 11, most, dice.below(100), dice.below(most + 1)))
+
+
+def random_cloud(dice, top):
+    return Cloud(dice.between(0, top), *(random_number(dice, 0xFFFF) for _ in range(4)))
+
+
+def random_block(dice, highest):
+    if dice.one_in(2):
+        return Datum(dice.between(0, highest), random_number(dice, 0xFFFF),
+                     random_number(dice, 0xFFFF))
+    location = min(dice.between(0, highest), dice.between(0, highest))
+    clearance = dice.choice((HIGHEST, dice.between(location, HIGHEST), max(location, highest)))
+    return Service(location, clearance, random_number(dice, 0xFFFFFFFF))
+
+
+def add_random_edges(dice, made):
+    if not made.services() or not made.data():
+        return
+    mix = dice.choice(((READS, READS, WRITES), (READS, WRITES, WRITES), (WRITES,)))
+    for _ in range(dice.choice((3, 8, 16, 32, 80, 300))):
+        names = dice.choice(made.services()), dice.choice(made.data())
+        edge = Edge(dice.choice(mix), *names)
+        if (not one_too_many(made, edge.command)
+                and not said_before(made, edge.command, names)
+                and keeps_rule_3(made, edge) and keeps_rule_4(made, edge)):
+            made.edges.append(edge)
+
+
+def add_random_pins(dice, made):
+    often = dice.choice((2, 6, 100))
+    for block in range(len(made.blocks)):
+        if dice.one_in(often):
+            made.pins[block] = dice.choice(allowed(made, block))
+    while count_candidates(made) > MOST_CANDIDATES:
+        block = dice.below(len(made.blocks))
+        made.pins[block] = dice.choice(allowed(made, block))
+
+
+def spoil(dice, made):
+    """Something may now be wrong with the workflow; its names stay sound."""
+    block = dice.below(len(made.blocks))
+    kind = dice.below(4)
+    if kind == 0:
+        made.pins.clear()
+    elif kind == 1:
+        made.pins[block] = dice.below(len(made.clouds))
+    elif isinstance(made.blocks[block], Datum):
+        made.blocks[block] = made.blocks[block]._replace(level=dice.below(16))
+    else:
+        made.blocks[block] = Service(dice.below(16), dice.below(16), dice.below(1000))
+
+
+def commands_of(dice, made):
+    """The commands in a random order in which every name is declared before its use."""
+    queues = [
+        [(0, 0, encode(CLOUD, *each)) for each in made.clouds],
+        [(0, 0, encode(DATUM if isinstance(each, Datum) else SERVICE, *each))
+         for each in made.blocks],
+        [(0, max(edge.service, edge.datum) + 1, encode(*edge)) for edge in made.edges],
+        [(to + 1, block + 1, pin(block, to)) for block, to in made.pins.items()],
+    ]
+    commands = []
+    declared = [0, 0, 0, 0]                                # how many left each queue
+    while any(queues):
+        ready = [q for q in range(4) if queues[q] and queues[q][0][0] <= declared[0]
+                 and queues[q][0][1] <= declared[1]]
+        q = dice.choice(ready)
+        commands.append(queues[q].pop(0)[2])
+        declared[q] += 1
+    return commands + [STOP]
+
+
+def random_text(dice):
+    return b"".join(commands_of(dice, random_workflow(dice)))
+
+
+def damage_bytes(dice, text):
+    at = dice.below(len(text))
+    kind = dice.below(6)
+    if kind == 0:
+        return text[:at] + bytes([text[at] ^ (1 << dice.below(8))]) + text[at + 1:]
+    if kind == 1:
+        return text[:at] + dice.bytes(1) + text[at + 1:]
+    if kind == 2:
+        return text[:at] + text[at + 1:]
+    if kind == 3:
+        return text[:at] + bytes([dice.below(8)]) + text[at:]
+    if kind == 4:
+        return text[:at]
+    return text + dice.bytes(dice.between(1, 9))
+
+
+def damage_commands(dice, commands):
+    """Repeat, drop, exchange or add whole commands, so that the framing stays sound."""
+    changed = list(commands)
+    at, other = dice.below(len(changed)), dice.below(len(changed))
+    kind = dice.below(4)
+    if kind == 0:
+        changed.insert(other, changed[at])
+    elif kind == 1:
+        del changed[at]
+    elif kind == 2:
+        changed[at], changed[other] = changed[other], changed[at]
+    else:
+        changed.insert(at, random_command(dice))
+    return b"".join(changed)
+
+
+def random_command(dice):
+    command = dice.choice((CLOUD, DATUM, SERVICE, READS, WRITES, PIN, READS, WRITES, PIN))
+    return encode(command, *(dice.below(18) if width == 1 else dice.below(100)
+                             for width in WIDTHS[command]))
+
+
+def read_random(dice):
+    for mask in (0x01, 0x80, 0xFF):
+        for at in range(len(M)):
+            yield read_case(M[:at] + bytes([M[at] ^ mask]) + M[at + 1:])
+    for at in range(0, len(M), 2):
+        yield read_case(M[:at] + M[at + 1:])
+        yield read_case(M[:at] + dice.bytes(1) + M[at:])
+    for _ in range(180):
+        yield read_case(random_text(dice))
+    for _ in range(120):
+        made = random_workflow(dice)
+        for _ in range(dice.between(1, 3)):
+            spoil(dice, made)
+        yield read_case(b"".join(commands_of(dice, made)))
+    for _ in range(100):
+        yield read_case(damage_bytes(dice, random_text(dice)))
+    for _ in range(140):
+        yield read_case(damage_commands(dice, commands_of(dice, random_workflow(dice))))
+    for _ in range(40):
+        yield read_case(dice.bytes(dice.below(30)))
+    commands = commands_of(dice, random_workflow(dice))
+    while not 70 < len(b"".join(commands)) < 130:
+        commands = commands_of(dice, random_workflow(dice))
+    yield from cut_at_each_length(commands)
+
+
+def read_cases(dice):
+    yield from read_cut_short()
+    yield from read_cut_short_and_at_fault()
+    yield from read_unknown()
+    yield from read_past_the_end()
+    yield from read_limits()
+    yield from read_heights()
+    yield from read_names()
+    yield from read_repeats()
+    yield from read_nothing_there()
+    yield from read_rules()
+    yield from read_candidate_counts()
+    yield from read_first_fault_decides()
+    yield from read_single_services()
+    yield from read_random(dice)
+
+
+# ---- The stored cases: Judge ----------------------------------------------------------
+
+# Clouds at levels 0, 1, 2.  Block 0 is a datum at level 1, 2 one at level 2, 1 and 3 are
+# services that may stand anywhere; 1 reads 0 and writes 2, and 3 reads 2.
+STEPS = (cloud(0) + cloud(1) + cloud(2) + datum(1) + service(0, 2) + datum(2) + service(0, 2)
+         + reads(1, 0) + writes(1, 2) + reads(3, 2))
+
+
+def judge_by_hand():
+    for text, number, place in REFUSED_BY_READ:
+        for placement in (placed(), placed(1, 1, 1, 1, 1), bytes([255] * 16)):
+            yield judge_case(text, placement, f"refused {number} {place}")
+    for placement, expected in (
+            (placed(1, 2, 2, 2), "secure"), (placed(2, 2, 2, 2), "secure"),
+            (placed(1, 1, 2, 2), "refused 15 1"),
+            (placed(2, 1, 2, 2), "refused 15 1"),
+            (placed(1, 0, 2, 2), "refused 14 0"),          # and rule 17 at edge 1
+            (placed(2, 0, 2, 2), "refused 14 0"),
+            (placed(1, 2, 2, 1), "refused 14 2"), (placed(1, 2, 2, 0), "refused 14 2"),
+            (placed(1, 1, 2, 1), "refused 14 2"),          # though edge 1 breaks rule 17
+            (placed(1, 0, 2, 0), "refused 14 0"),
+            (placed(0, 2, 2, 2), "refused 13 0"), (placed(3, 2, 2, 2), "refused 13 0"),
+            (placed(1, 3, 2, 2), "refused 13 1"), (placed(1, 8, 2, 2), "refused 13 1"),
+            (placed(1, 255, 2, 2), "refused 13 1"),
+            (placed(1, 2, 1, 2), "refused 13 2"), (placed(1, 2, 0, 2), "refused 13 2"),
+            (placed(1, 0, 1, 0), "refused 13 2"),          # 13 before what edge 0 breaks
+            (placed(1, 0, 2, 4), "refused 13 3"), (placed(1, 1, 2, 3), "refused 13 3"),
+            (placed(0, 0, 0, 0), "refused 13 0"), (placed(0, 255, 1, 3), "refused 13 0")):
+        yield judge_case(STEPS + STOP, placement, expected)
+    for position in range(4, 16):
+        for value in (1, 255):
+            for beginning in ((1, 2, 2, 2), (1, 0, 2, 0)):     # the second breaks 16 and 17
+                placement = bytearray(placed(*beginning))
+                placement[position] = value
+                yield judge_case(STEPS + STOP, bytes(placement), f"refused 13 {position}")
+    yield judge_case(STEPS + STOP, placed(1, 2, 2, 2, 0, 0, 7, 0, 0, 1), "refused 13 6")
+    yield from judge_pins()
+    yield from judge_shapes()
+
+
+def judge_pins():
+    for pins, placement, expected in (
+            (pin(1, 2), placed(1, 2, 2, 2), "secure"),
+            (pin(1, 2), placed(1, 1, 2, 2), "refused 13 1"),
+            (pin(1, 2), placed(1, 0, 2, 2), "refused 13 1"),
+            (pin(1, 1), placed(1, 1, 2, 2), "refused 15 1"),
+            (pin(1, 1), placed(1, 2, 2, 2), "refused 13 1"),
+            (pin(0, 2), placed(1, 2, 2, 2), "refused 13 0"),
+            (pin(0, 2), placed(2, 2, 2, 2), "secure"),
+            (pin(3, 0), placed(1, 2, 2, 2), "refused 13 3"),
+            (pin(3, 0), placed(1, 2, 2, 0), "refused 14 2"),
+            (pin(0, 0), placed(0, 2, 2, 2), "refused 13 0"),   # pinned below its level
+            (pin(0, 0), placed(1, 2, 2, 2), "refused 13 0"),
+            (pin(2, 1), placed(1, 2, 2, 2), "refused 13 2"),
+            (pin(2, 1) + pin(3, 0), placed(1, 2, 1, 2), "refused 13 2"),
+            (pin(0, 1) + pin(1, 2) + pin(2, 2) + pin(3, 2), placed(1, 2, 2, 2), "secure"),
+            (pin(3, 2) + pin(2, 2) + pin(1, 2) + pin(0, 1), placed(2, 1, 0, 0), "refused 13 0")):
+        yield judge_case(STEPS + pins + STOP, placement, expected)
+    exact = placed(*(block % 8 for block in range(16)))
+    yield judge_case(LONGEST, exact, "secure")             # data at level 0 lie low enough
+    for position in range(16):
+        for value in ((position + 1) % 8, 8, 255):
+            placement = bytearray(exact)
+            placement[position] = value
+            yield judge_case(LONGEST, bytes(placement), f"refused 13 {position}")
+
+
+def judge_shapes():
+    for number in range(32):                               # every placement on M's two clouds
+        yield judge_case(M, placed(*(number >> bit & 1 for bit in range(4, -1, -1))))
+    yield judge_case(M, placed(1, 0, 0, 0, 0), "refused 14 0")
+    single = cloud(3) + datum(3) + STOP
+    yield judge_case(single, placed(), "secure")
+    for position in range(16):
+        placement = bytes([0] * position + [1] * (16 - position))
+        yield judge_case(single, placement, f"refused 13 {position}")
+    nowhere = cloud(0) + datum(0) + datum(1) + STOP        # no candidates at all
+    for placement, place in ((placed(), 1), (placed(0, 1), 1), (placed(1), 0), (placed(0, 255), 1)):
+        yield judge_case(nowhere, placement, f"refused 13 {place}")
+    for text in (SIXTEEN_BLOCKS, THIRTY_TWO_EDGES, MIXED_EDGES):
+        yield judge_case(text + STOP, placed(), "secure")
+        yield judge_case(text + STOP, bytes([1] * 16), "secure")
+        yield judge_case(text + STOP, bytes([0, 1] * 8), "secure")
+        yield judge_case(text + STOP, bytes([1] * 15 + [2]), "refused 13 15")
+    # One service reads and writes the same datum: the order of the edges does not matter.
+    both = cloud(0) + cloud(2) + datum(2) + service(0, 2)
+    for edges, read_edge in ((reads(1, 0) + writes(1, 0), 0), (writes(1, 0) + reads(1, 0), 1)):
+        yield judge_case(both + edges + STOP, placed(1, 0), f"refused 14 {read_edge}")
+        yield judge_case(both + edges + STOP, placed(1, 1), "secure")
+    # The datum's level counts for rules 16 and 17, not the service's location or clearance.
+    for edge, number in ((reads, 14), (writes, 15)):
+        text = cloud(1) + cloud(2) + datum(2) + service(1, 15) + edge(1, 0) + STOP
+        yield judge_case(text, placed(1, 0), f"refused {number} 0")
+        text = cloud(2) + cloud(2) + datum(2) + service(0, 15) + edge(1, 0) + STOP
+        yield judge_case(text, placed(1, 0), "secure")
+    yield from judge_late_edges()
+
+
+def judge_late_edges():
+    """Many services on a low cloud: the edge that is named moves with the datum's level."""
+    for high in range(8):
+        data = b"".join(datum(1 if d == high else 0) for d in range(8))
+        text = cloud(1) + cloud(0) + data + service(0, 1) * 8
+        for edge, number in ((reads, 14), (writes, 15)):
+            edges = b"".join(edge(8 + d, d) for d in range(8))
+            placement = bytes([0] * 8 + [1] * 8)
+            yield judge_case(text + edges + STOP, placement, f"refused {number} {high}")
+        edges = b"".join(writes(8 + d, d) + reads(15 - d, d) for d in range(8))
+        yield judge_case(text + edges + STOP, placement, f"refused 14 {2 * high + 1}")
+
+
+def random_candidate(dice, made):
+    """Half of the time near the highest cloud, where most placements are secure."""
+    choices = [allowed(made, b) for b in range(len(made.blocks))]
+    clouds = [dice.choice(choice) for choice in choices]
+    if dice.one_in(2):
+        for b, choice in enumerate(choices):
+            if not dice.one_in(4):
+                clouds[b] = max(choice, key=lambda k: made.clouds[k].level)
+    return placed(*clouds)
+
+
+def verdict(made, placement):
+    try:
+        check_placement(made, placement)
+    except Refused as refusal:
+        return refusal.number
+    return None
+
+
+def assorted_candidates(dice, made, most):
+    """Different candidates, at most so many of each verdict."""
+    kept = []
+    count = Counter()
+    for _ in range(80):
+        placement = random_candidate(dice, made)
+        number = verdict(made, placement)
+        if placement not in kept and count[number] < most:
+            kept.append(placement)
+            count[number] += 1
+    return kept
+
+
+def bend(dice, made, placement):
+    """The placement with one position changed for the worse, most likely."""
+    bent = bytearray(placement)
+    position = dice.below(dice.choice((16, len(made.blocks))))
+    bent[position] = dice.choice((dice.below(256), len(made.clouds), 8, 255,
+                                  dice.below(len(made.clouds)), dice.below(len(made.clouds))))
+    return bytes(bent)
+
+
+def random_placement(dice, made):
+    if dice.one_in(4):
+        return dice.bytes(16)
+    return placed(*(dice.below(len(made.clouds)) for _ in made.blocks))
+
+
+def judge_random(dice):
+    for _ in range(110):
+        made = random_workflow(dice)
+        text = b"".join(commands_of(dice, made))
+        found = assorted_candidates(dice, made, 2)
+        for placement in found:
+            yield judge_case(text, placement)
+        yield judge_case(text, bend(dice, made, dice.choice(found)))
+        yield judge_case(text, bend(dice, made, dice.choice(found)))
+        yield judge_case(text, random_placement(dice, made))
+    for _ in range(60):
+        made = random_workflow(dice)
+        spoil(dice, made)
+        yield judge_case(b"".join(commands_of(dice, made)), random_placement(dice, made))
+    for _ in range(30):
+        made = random_workflow(dice)
+        text = damage_bytes(dice, b"".join(commands_of(dice, made)))
+        yield judge_case(text, random_placement(dice, made))
+
+
+def judge_cases(dice):
+    yield from judge_by_hand()
+    yield from judge_random(dice)
+
+
+# ---- The stored cases: Transfers ------------------------------------------------------
+
+def untouched(room):
+    return bytes([FILLER] * room)
+
+
+def refused_transfers(text, placement, room, number, place):
+    expected = with_buffer(f"refused {number} {place}", untouched(room))
+    return transfers_case(text, placement, room, expected)
+
+
+def given_transfers(text, placement, room, entries):
+    """A case whose transfers are known; a room too short for them is refused."""
+    filled = bytes(itertools.chain.from_iterable(entries))
+    if room < len(filled):
+        return refused_transfers(text, placement, room, 16, len(filled))
+    buffer = filled + untouched(room - len(filled))
+    return transfers_case(text, placement, room, with_buffer(f"transfers {len(entries)}", buffer))
+
+
+def transfers_by_hand():
+    for text, number, place in REFUSED_BY_READ:
+        for room in (0, 1, 12):
+            yield refused_transfers(text, placed(1, 1), room, number, place)
+    text = STEPS + STOP
+    for placement, number, place in (
+            (placed(1, 1, 2, 2), 15, 1), (placed(1, 0, 2, 2), 14, 0), (placed(1, 1, 2, 1), 14, 2),
+            (placed(0, 2, 2, 2), 13, 0), (placed(1, 9, 2, 2), 13, 1),
+            (placed(1, 2, 2, 2, 0, 0, 0, 1), 13, 7), (bytes([255] * 16), 13, 0),
+            (placed(1, 0, 2, 0, 5), 13, 4)):
+        for room in (0, 1, 4, 20):
+            yield refused_transfers(text, placement, room, number, place)
+    for room in (0, 1, 2, 3, 4, 5, 8, 9):
+        yield given_transfers(text, placed(2, 2, 2, 2), room, [])
+        yield given_transfers(text, placed(1, 2, 2, 2), room, [(0, 0, 1, 2)])
+    chain = (cloud() * 3 + datum() + service() + datum() + service() + datum()
+             + reads(1, 0) + writes(1, 2) + reads(3, 2) + writes(3, 4) + STOP)
+    known = [(0, 0, 2, 1), (1, 2, 1, 0), (2, 2, 0, 2), (3, 4, 2, 1)]
+    for room in (*range(0, 20), 100, 1023, 1024):
+        yield given_transfers(chain, placed(2, 1, 0, 2, 1), room, known)
+    both = cloud() * 2 + datum() + service() + writes(1, 0) + reads(1, 0) + STOP
+    for room in (0, 4, 7, 8, 9):
+        yield given_transfers(both, placed(0, 1), room, [(0, 0, 1, 0), (1, 0, 0, 1)])
+        yield given_transfers(both, placed(1, 1), room, [])
+    yield from transfers_to_the_full()
+
+
+def transfers_to_the_full():
+    apart = bytes([0] * 8 + [1] * 8)                       # data here, services there
+    read_all = [(e, e % 8, 0, 1) for e in range(32)]
+    mixed = [(e, e % 8, 0, 1) for e in range(24)] + [(24 + d, d, 1, 0) for d in range(8)]
+    for room in (0, 1, 64, 124, 127, 128, 129, 132, 256, 1024):
+        yield given_transfers(THIRTY_TWO_EDGES + STOP, apart, room, read_all)
+        yield given_transfers(MIXED_EDGES + STOP, apart, room, mixed)
+    for room in (0, 1, 128, 1024):
+        yield given_transfers(THIRTY_TWO_EDGES + STOP, placed(), room, [])
+    # One datum apart from everything else: only its edges are listed.
+    for alone in range(8):
+        placement = bytes(1 if b == alone else 0 for b in range(16))
+        entries = [(8 * s + alone, alone, 1, 0) for s in range(3)] + [(24 + alone, alone, 0, 1)]
+        for room in (15, 16, 17):
+            yield given_transfers(MIXED_EDGES + STOP, placement, room, entries)
+
+
+def rooms(dice, needed):
+    """Lengths of a buffer around what is needed."""
+    around = [needed, needed + dice.choice((1, 1, 2, 3, 4, 20)), dice.choice((0, 1, 3, 4))]
+    if needed > 0:
+        around += [needed - 1, dice.below(needed)]
+    return sorted(set(around))
+
+
+def transfers_random(dice):
+    for number in range(32):
+        placement = placed(*(number >> bit & 1 for bit in range(4, -1, -1)))
+        yield transfers_case(M, placement, dice.choice((0, 4, 8, 12, 16, 17)))
+    for _ in range(75):
+        made = random_workflow(dice)
+        text = b"".join(commands_of(dice, made))
+        found = assorted_candidates(dice, made, 4)
+        secure = [each for each in found if verdict(made, each) is None]
+        secure.sort(key=lambda each: len(moves(made, each)), reverse=True)
+        for placement in secure[:dice.between(1, 2)]:
+            for room in rooms(dice, 4 * len(moves(made, placement))):
+                yield transfers_case(text, placement, room)
+        for placement in [each for each in found if each not in secure][:2]:
+            yield transfers_case(text, placement, dice.between(0, 12))
+        yield transfers_case(text, bend(dice, made, dice.choice(found)), dice.between(0, 40))
+    for _ in range(60):
+        made = random_workflow(dice)
+        spoil(dice, made)
+        text = b"".join(commands_of(dice, made))
+        yield transfers_case(text, random_placement(dice, made), dice.between(0, 12))
+    for _ in range(30):
+        made = random_workflow(dice)
+        text = damage_bytes(dice, b"".join(commands_of(dice, made)))
+        yield transfers_case(text, random_placement(dice, made), dice.between(0, 12))
+
+
+def transfers_cases(dice):
+    yield from transfers_by_hand()
+    yield from transfers_random(dice)
+
+
+# ---- The stored cases: all of them ----------------------------------------------------
+
+# In the order in which they are stored.  Each group has dice of its own, so a letter
+# that is added here at the end leaves what stands before it as it is.
+GROUPS = {"R": read_cases, "J": judge_cases, "T": transfers_cases}
+
+NUMBERS_DUE = {"R": range(1, 13), "J": range(1, 16), "T": range(1, 17)}
+
+
+def stored_cases(letters):
+    seen = set()                                           # the same bytes twice teach nothing
+    for letter, group in GROUPS.items():
+        if letter in letters:
+            for case in group(Dice(f"cases {letter}")):
+                if case.content not in seen:
+                    yield case
+                seen.add(case.content)
+
+
+def stored_files(letters):
+    """The contents of the two files, after a look at the answers known by hand."""
+    cases = list(stored_cases(letters))
+    content = b"".join(case.content for case in cases)
+    lines = answer_all(content, letters)
+    require(len(lines) == len(cases), "the cases do not divide as they were made")
+    for case, line in zip(cases, lines):
+        require(case.expected in (None, line),
+                f"by hand {case.expected!r}, by the rules {line!r}: {case.content.hex()}")
+    return content, text_of(lines)
+
+
+def text_of(lines):
+    return "".join(line + "\n" for line in lines).encode("ascii")
+
+
+def kind_of(line):
+    """What a line is counted as: its first word, and the number of a refusal."""
+    words = line.split()
+    return (words[0], int(words[1])) if words[0] == "refused" else (words[0], 0)
+
+
+def summary(lines):
+    count = Counter(kind_of(line) for line in lines)
+    parts = [f"{word} {number}: {count[word, number]}" if number else f"{word}: {count[word, 0]}"
+             for word, number in sorted(count)]
+    return f"{len(lines)} cases; " + ", ".join(parts)
+
+
+# ---- The checks -----------------------------------------------------------------------
+
+ROOT = Path(__file__).resolve().parent.parent
+
+
+def require(holds, complaint):
+    if not holds:
+        sys.exit(f"bruteforce: {complaint}")
+
+
+def refusal_of(call, *arguments):
+    try:
+        call(*arguments)
+    except Refused as refusal:
+        return refusal.number, refusal.place
+    return None
+
+
+def check_interview():
+    """The eleven cases of the interview table."""
+    def place(digits_of_blocks):
+        return placed(*(int(digit) for digit in digits_of_blocks))
+
+    require(listing(M) == ["2820 11111", "2840 11110", "2920 11000", "2940 11001", "3020 11011",
+                           "3040 11010", "options 6"], "interview 1: the rows of M")
+    require(census(M) == (16, 8, 0, 8, 6), "interview 2: the census of M")
+    require(option(read(M), place("11000")) == option(read(M), place("11100")),
+            "interview 3: 11000 and 11100 are one option")
+    require(refusal_of(judge, M, place("10000")) == (14, 0), "interview 4: 10000")
+    require(refusal_of(read, b"") == (1, 0), "interview 5: empty input")
+    require(refusal_of(read, STOP) == (8, 1), "interview 6: 00 alone")
+    nowhere = cloud(0) + datum(1) + STOP
+    require(census(nowhere).candidates == 0 and draw(nowhere, None) is None,
+            "interview 7: no candidates, finished first")
+    require([gigabytes(size) for size in (0, 1, 10, 11)] == [0, 1, 1, 2], "interview 8: sizes")
+    for number, clouds, blocks, count in ((9, 2, 16, 65536), (10, 3, 10, 59049)):
+        text = cloud() * clouds + datum() * blocks + STOP
+        require(count_candidates(read(text)) == count, f"interview {number}: candidates")
+    text = cloud() * 3 + datum() * 11 + STOP
+    require(count_candidates(decode(text)) == 177147 and refusal_of(read, text) == (12, 0),
+            "interview 11: too many candidates")
+
+
+def check_bad_cases():
+    """What is no case ends the answers."""
+    whole = read_case(M).content
+    for content, lines in ((b"", []), (whole, ["accepted 2 5 4"]),
+                           (whole + b"X" + whole, ["accepted 2 5 4", "bad case"]),
+                           (b"C" + whole[1:], ["bad case"]),
+                           (transfers_case(M, placed(), 5).content[:-1], ["bad case"]),
+                           (judge_case(M, placed()).content[:-1], ["bad case"])):
+        require(answer_all(content, "RJT") == lines, f"bad case: {content.hex()}")
+    for length in range(1, len(whole)):
+        require(answer_all(whole[:length], LETTERS) == ["bad case"], f"cut at {length}")
+
+
+def check_example():
+    """The stored interview file, and the bytes that the listing beside it shows."""
+    stored = ROOT / "examples" / "interview.bin"
+    require(stored.read_bytes() == M, "examples/interview.bin is not M")
+    shown = b""
+    for line in (ROOT / "examples" / "interview.txt").read_text("utf-8").splitlines():
+        found = re.match(r" *(\d+)  ([0-9A-F]{2}(?: [0-9A-F]+)*)(?:  |$)", line)
+        if found:
+            require(int(found[1]) == len(shown), f"examples/interview.txt: offset {found[1]}")
+            shown += bytes.fromhex(found[2])
+    require(shown == M, "examples/interview.txt does not show the bytes of M")
+
+
+def check_same(path, stored, made):
+    if stored == made:
+        return
+    pairs = itertools.zip_longest(stored, made)
+    at = next(i for i, (one, other) in enumerate(pairs) if one != other)
+    line = made[:at].count(b"\n") + 1
+    where = f"line {line}" if path.name == "stdout" else f"byte {at}"
+    require(False, f"{path} is not what would be written today, first at {where}")
+
+
+def check(letters, directory):
+    check_interview()
+    check_bad_cases()
+    check_example()
+    content, text = stored_files(letters)
+    stored = (directory / "stdin").read_bytes()
+    stored_text = (directory / "stdout").read_bytes()
+    check_same(directory / "stdin", stored, content)
+    check_same(directory / "stdout", stored_text, text)
+    lines = answer_all(stored, letters)
+    require(text_of(lines) == stored_text, f"the answers to {directory}/stdin differ from stdout")
+    due = {number for letter in letters for number in NUMBERS_DUE[letter]}
+    seen = {number for _, number in map(kind_of, lines)}
+    require(due <= seen, f"no case is refused with {sorted(due - seen)}")
+    print(summary(lines))
+
+
+def generate(letters, directory):
+    content, text = stored_files(letters)
+    (directory / "stdin").write_bytes(content)
+    (directory / "stdout").write_bytes(text)
+
+
+# ---- The command line -----------------------------------------------------------------
+
+def letters_from(known):
+    def parse(argument):
+        if not set(argument) <= set(known):
+            raise argparse.ArgumentTypeError(f"letters are some of {known}")
+        return argument
+    return parse
+
+
+def main():
+    parser = argparse.ArgumentParser(description="Brute-force reference for placements.")
+    commands = parser.add_subparsers(dest="command", required=True)
+    answering = commands.add_parser("answer", help="answer the cases on standard input")
+    answering.add_argument("--letters", type=letters_from(LETTERS), default=LETTERS)
+    commands.add_parser("list", help="list the rows of the description on standard input")
+    stored = "".join(GROUPS)
+    for name, words in (("generate", "write DIR/stdin and DIR/stdout"),
+                        ("check", "compare them with what would be written today")):
+        command = commands.add_parser(name, help=words)
+        command.add_argument("--letters", type=letters_from(stored), default=stored)
+        command.add_argument("directory", metavar="DIR", type=Path)
+    given = parser.parse_args()
+    if given.command == "answer":
+        sys.stdout.buffer.write(text_of(answer_all(sys.stdin.buffer.read(), given.letters)))
+    elif given.command == "list":
+        sys.stdout.buffer.write(text_of(listing(sys.stdin.buffer.read())))
+    elif given.command == "generate":
+        generate(given.letters, given.directory)
+    else:
+        check(given.letters, given.directory)
+
+
+if __name__ == "__main__":
+    main()
