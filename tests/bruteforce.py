@@ -669,11 +669,11 @@ TRIO = PAIR + service(1, 1)                                # and 2 a second serv
 EIGHT_CLOUDS = b"".join(cloud(height) for height in range(8))
 SIXTEEN_BLOCKS = cloud() + cloud() + datum() * 8 + service() * 8
 SIXTEEN_PINS = b"".join(pin(block, block % 2) for block in range(16))
-# Services 8 to 11 read all of 0 to 7.
-THIRTY_TWO_EDGES = SIXTEEN_BLOCKS + b"".join(reads(8 + e // 8, e % 8) for e in range(32))
-# Services 8 to 10 read all of 0 to 7, and 11 to 14 write two of them each.
-MIXED_EDGES = (SIXTEEN_BLOCKS + b"".join(reads(8 + e // 8, e % 8) for e in range(24))
-               + b"".join(writes(11 + e // 2, e) for e in range(8)))
+# Services 8 to 11 read all of 0 to 7; or 8 to 10 do, and 11 to 14 write two of them each.
+ALL_READ = b"".join(reads(8 + e // 8, e % 8) for e in range(32))
+SOME_WRITE = ALL_READ[:3 * 24] + b"".join(writes(11 + d // 2, d) for d in range(8))
+THIRTY_TWO_EDGES = SIXTEEN_BLOCKS + ALL_READ
+MIXED_EDGES = SIXTEEN_BLOCKS + SOME_WRITE
 # No sound description is longer: thirteen services and three data still give 32 edges.
 LONGEST = (EIGHT_CLOUDS + datum() * 3 + service(0, 0) * 13
            + b"".join(reads(3 + e // 3, e % 3) for e in range(32))
@@ -703,7 +703,7 @@ def counted(choices, *pins):
 REFUSED_BY_READ = [
     (M[:40], 1, 39), (M[:-1], 1, 64), (b"", 1, 0),
     (M[:52] + b"\x07" + M[52:], 2, 52),
-    (M + b"\0", 3, 65),
+    (M + b"\0", 3, 65), (M + b"\xff" * 1200, 3, 65),
     (EIGHT_CLOUDS + cloud() + datum() + STOP, 4, 80),
     (SIXTEEN_BLOCKS + datum() + STOP, 4, 124),
     (THIRTY_TWO_EDGES + reads(15, 0) + STOP, 4, 220),
@@ -929,7 +929,10 @@ def read_candidate_counts():
     yield refused(counted([8] * 16, *(pin(b, b % 8) for b in range(10))), 12, 0)
     yield accepted(counted([8] * 15 + [3], pin(15, 0)), 8, 16, 0)
     yield accepted(counted([3] + [8] * 15, pin(0, 4)), 8, 16, 0)
-    yield accepted(counted([8] * 5 + [2, 2], pin(6, 7)), 8, 7, 0)
+    yield accepted(counted([8] * 5 + [2, 8], pin(6, 3)), 8, 7, 0)
+    yield refused(counted([8] * 5 + [2, 8], pin(5, 7)), 12, 0)
+    yield accepted(counted([2] * 15 + [3], pin(15, 7)), 8, 16, 0)
+    yield refused(counted([3] * 8 + [2, 5, 8], pin(10, 0)), 12, 0)
     yield accepted(cloud() * 2 + service() * 16 + STOP, 2, 16, 0)
     yield accepted(cloud() * 3 + service() * 10 + STOP, 3, 10, 0)
     yield refused(cloud() * 3 + service() * 11 + STOP, 12, 0)
@@ -958,7 +961,7 @@ def read_first_fault_decides():
         yield refused(before + service(9, 1) + command + STOP + M, number, len(before) + 7)
 
 
-def read_single_services():
+def read_shapes():
     """Shapes that must be accepted: cycles, services that write nothing or do nothing."""
     yield accepted(PAIR + reads(1, 0) + STOP, 1, 2, 1)
     yield accepted(PAIR + STOP, 1, 2, 0)
@@ -1138,7 +1141,7 @@ def read_cases(dice):
     yield from read_rules()
     yield from read_candidate_counts()
     yield from read_first_fault_decides()
-    yield from read_single_services()
+    yield from read_shapes()
     yield from read_random(dice)
 
 
@@ -1226,7 +1229,7 @@ def judge_shapes():
         yield judge_case(text + STOP, bytes([1] * 16), "secure")
         yield judge_case(text + STOP, bytes([0, 1] * 8), "secure")
         yield judge_case(text + STOP, bytes([1] * 15 + [2]), "refused 13 15")
-    # One service reads and writes the same datum: the order of the edges does not matter.
+    # One service reads and writes the same datum: rule 16 is named, whichever edge is first.
     both = cloud(0) + cloud(2) + datum(2) + service(0, 2)
     for edges, read_edge in ((reads(1, 0) + writes(1, 0), 0), (writes(1, 0) + reads(1, 0), 1)):
         yield judge_case(both + edges + STOP, placed(1, 0), f"refused 14 {read_edge}")
@@ -1238,6 +1241,22 @@ def judge_shapes():
         text = cloud(2) + cloud(2) + datum(2) + service(0, 15) + edge(1, 0) + STOP
         yield judge_case(text, placed(1, 0), "secure")
     yield from judge_late_edges()
+    yield from judge_every_edge()
+
+
+def judge_every_edge():
+    """Thirty-two edges, of which each in its turn is the only one broken."""
+    def case(edges, high, low, number, place):
+        # One datum lies at level 1, and one service stands on the cloud at level 0.
+        data = b"".join(datum(1 if d == high else 0) for d in range(8))
+        text = cloud(1) + cloud(0) + data + service(0, 1) * 8 + edges + STOP
+        placement = bytes(1 if block == low else 0 for block in range(16))
+        return judge_case(text, placement, f"refused {number} {place}")
+
+    for edge in range(32):
+        yield case(ALL_READ, edge % 8, 8 + edge // 8, 14, edge)
+    for written in range(8):
+        yield case(SOME_WRITE, written, 11 + written // 2, 15, 24 + written)
 
 
 def judge_late_edges():
@@ -1422,6 +1441,13 @@ def transfers_random(dice):
         made = random_workflow(dice)
         text = damage_bytes(dice, b"".join(commands_of(dice, made)))
         yield transfers_case(text, random_placement(dice, made), dice.between(0, 12))
+    # Everything at level 0, so that any placement is secure and many edges cross.
+    for text in (THIRTY_TWO_EDGES + STOP, MIXED_EDGES + STOP):
+        for _ in range(15):
+            placement = bytes(dice.below(2) for _ in range(16))
+            needed = 4 * len(moves(read(text), placement))
+            for room in (needed - 1, needed, needed + 1):
+                yield transfers_case(text, placement, max(room, 0))
 
 
 def transfers_cases(dice):
@@ -1535,15 +1561,20 @@ def check_bad_cases():
 
 def check_example():
     """The stored interview file, and the bytes that the listing beside it shows."""
-    stored = ROOT / "examples" / "interview.bin"
-    require(stored.read_bytes() == M, "examples/interview.bin is not M")
+    examples = ROOT / "examples"
+    require(stored_bytes(examples / "interview.bin") == M, "examples/interview.bin is not M")
     shown = b""
-    for line in (ROOT / "examples" / "interview.txt").read_text("utf-8").splitlines():
+    for line in stored_bytes(examples / "interview.txt").decode("ascii").splitlines():
         found = re.match(r" *(\d+)  ([0-9A-F]{2}(?: [0-9A-F]+)*)(?:  |$)", line)
         if found:
             require(int(found[1]) == len(shown), f"examples/interview.txt: offset {found[1]}")
             shown += bytes.fromhex(found[2])
     require(shown == M, "examples/interview.txt does not show the bytes of M")
+
+
+def stored_bytes(path):
+    require(path.is_file(), f"there is no {path}")
+    return path.read_bytes()
 
 
 def check_same(path, stored, made):
@@ -1561,8 +1592,8 @@ def check(letters, directory):
     check_bad_cases()
     check_example()
     content, text = stored_files(letters)
-    stored = (directory / "stdin").read_bytes()
-    stored_text = (directory / "stdout").read_bytes()
+    stored = stored_bytes(directory / "stdin")
+    stored_text = stored_bytes(directory / "stdout")
     check_same(directory / "stdin", stored, content)
     check_same(directory / "stdout", stored_text, text)
     lines = answer_all(stored, letters)
@@ -1575,6 +1606,7 @@ def check(letters, directory):
 
 def generate(letters, directory):
     content, text = stored_files(letters)
+    directory.mkdir(parents=True, exist_ok=True)
     (directory / "stdin").write_bytes(content)
     (directory / "stdout").write_bytes(text)
 

@@ -1,0 +1,81 @@
+-- What a loop over a list's elements keeps: from position i on, a search, a count, a product is what it is from the next position on,
+-- with the element at i told apart.
+use mathlib.Core.Path.{_≡_, refl, sym, ap, _∙_}
+use Prim.Native.Nat.{ℕ, zero, suc, _+_, _*_, _≤_, _<_}
+use native.Mathlib.Nat.{suc-add, add-suc}
+use native.Mathlib.Numerals.{add-one}
+use native.Mathlib.Omega.{arith}
+use mathlib.Core.Bool.{Bool, true, false, cond, _||_}
+use mathlib.Core.List.{List, [], _∷_, map}
+use mathlib.Core.Option.{Option, none, some}
+use lib.ListN.{length, getD, drop, drop-of-length-le}
+use lib.Seq.{drop-cons}
+use Rattle.sequences.specs.Lists.{any, keep, firstFrom, from, below, product, sum}
+
+-- the elements from i on, with a head
+module _ {A : Type 0} (l : List A) (z : A) (i : ℕ) (h : i < length l) where
+  pub rest : drop i l ≡ getD l i z ∷ drop (i + 1) l
+  rest = drop-cons l i z h ∙ ap (λ (n : ℕ). getD l i z ∷ drop n l) (sym (add-one i))
+
+module _ {A : Type 0} (t : A → Bool) (l : List A) (z : A) (i : ℕ) (h : i < length l) where
+  pub any-hit : t (getD l i z) ≡ true → any t (drop i l) ≡ true
+  any-hit e = ap (any t) (rest l z i h) ∙ simp e
+
+  pub any-miss : t (getD l i z) ≡ false → any t (drop i l) ≡ any t (drop (i + 1) l)
+  any-miss e = ap (any t) (rest l z i h) ∙ simp e
+
+  pub first-hit : t (getD l i z) ≡ true → firstFrom i t (drop i l) ≡ some i
+  first-hit e = ap (firstFrom i t) (rest l z i h) ∙ simp e
+
+  pub first-miss : t (getD l i z) ≡ false → firstFrom i t (drop i l) ≡ firstFrom (i + 1) t (drop (i + 1) l)
+  first-miss e =
+      ap (firstFrom i t) (rest l z i h) ∙ (simp e) ∙ ap (λ (n : ℕ). firstFrom n t (drop (i + 1) l)) (sym (add-one i))
+
+  pub keep-hit : t (getD l i z) ≡ true → length (keep t (drop i l)) ≡ suc (length (keep t (drop (i + 1) l)))
+  keep-hit e = ap (λ k. length (keep t k)) (rest l z i h) ∙ simp e
+
+  pub keep-miss : t (getD l i z) ≡ false → length (keep t (drop i l)) ≡ length (keep t (drop (i + 1) l))
+  keep-miss e = ap (λ k. length (keep t k)) (rest l z i h) ∙ simp e
+
+module _ {A : Type 0} (l : List A) (i : ℕ) (h : length l ≤ i) where
+  pub any-end : (t : A → Bool) → any t (drop i l) ≡ false
+  any-end t = ap (any t) (drop-of-length-le l h)
+
+  pub first-end : (t : A → Bool) → firstFrom i t (drop i l) ≡ none
+  first-end t = ap (firstFrom i t) (drop-of-length-le l h)
+
+  pub keep-end : (t : A → Bool) → length (keep t (drop i l)) ≡ 0
+  keep-end t = ap (λ k. length (keep t k)) (drop-of-length-le l h)
+
+  pub product-end : (f : A → ℕ) → product (map f (drop i l)) ≡ 1
+  product-end f = ap (λ k. product (map f k)) (drop-of-length-le l h)
+
+  pub sum-end : (f : A → ℕ) → sum (map f (drop i l)) ≡ 0
+  sum-end f = ap (λ k. sum (map f k)) (drop-of-length-le l h)
+
+module _ {A : Type 0} (f : A → ℕ) (l : List A) (z : A) (i : ℕ) (h : i < length l) where
+  pub product-next : product (map f (drop i l)) ≡ f (getD l i z) * product (map f (drop (i + 1) l))
+  product-next = ap (λ k. product (map f k)) (rest l z i h)
+
+  pub sum-next : sum (map f (drop i l)) ≡ f (getD l i z) + sum (map f (drop (i + 1) l))
+  sum-next = ap (λ k. sum (map f k)) (rest l z i h)
+
+-- the numbers below n: there are n, and each stands at its own position
+pub length-from : (k n : ℕ) → length (from k n) ≡ n
+length-from k zero = refl
+length-from k (suc n) = ap suc (length-from (suc k) n)
+
+pub getD-from : (k n i z : ℕ) → i < n → getD (from k n) i z ≡ k + i
+getD-from k zero i z h = absurd (omega arith)
+getD-from k (suc n) zero z h = omega arith
+getD-from k (suc n) (suc i) z h = getD-from (suc k) n i z (omega arith) ∙ (omega arith)
+
+pub length-below : (n : ℕ) → length (below n) ≡ n
+length-below = length-from 0
+
+pub getD-below : (n i z : ℕ) → i < n → getD (below n) i z ≡ i
+getD-below n i z h = getD-from 0 n i z h ∙ (omega arith)
+
+-- a test that was made of a copy of an element tells of the element
+pub told : {A : Type 0} (t : A → Bool) {x y : A} {r v : Bool} → x ≡ y → r ≡ t x → r ≡ v → t y ≡ v
+told t e f g = sym (ap t e) ∙ sym f ∙ g
