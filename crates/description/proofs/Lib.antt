@@ -1,1 +1,7 @@
 pub mod Arrays
+pub mod Commands
+pub mod Limits
+pub mod Outcomes
+pub mod Reading
+pub mod Steps
+pub mod Turns

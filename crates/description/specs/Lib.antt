@@ -1,2 +1,4 @@
+pub mod Bytes
 pub mod Format
+pub mod Invariants
 pub mod Meaning

@@ -1,74 +1,60 @@
+-- Each return by the tests that led there.
+use mathlib.Core.Path.{_≡_, refl, sym, ap, _∙_}
+use native.Mathlib.Omega.{arith}
+use Prim.Native.Nat.{_≤_, _<_, _-_}
+use lib.ListN.{length, drop, getD}
+use borrow.Author.Tests.{eq-eqb, ne-eqb, lt-ltb, le-ltb, le-leb, lt-leb, not-true, not-false}
+use Rattle.description.proofs.Steps.{stops}
+use Rattle.description.specs.Meaning.{describes}
+use Rattle.description.specs.Format.{commandAt}
 use borrow.Author.Needs.{needs}
 use Rattle.description.proofs.decode.command_step.Statement.{statement}
 use Rattle.description.proofs.decode.command_step.Tie as tie
-use Rattle.description.proofs.decode.command_step.Reads as reads
-use Rattle.description.proofs.decode.command_step.Lts as lts
-use Rattle.description.proofs.decode.cloud_step.Reads as cloud-step-reads
-use Rattle.description.proofs.decode.datum_step.Reads as datum-step-reads
-use Rattle.description.proofs.decode.edge_step.Reads as edge-step-reads
-use Rattle.description.proofs.decode.faulty.Reads as faulty-reads
-use Rattle.description.proofs.decode.pin_step.Reads as pin-step-reads
-use Rattle.description.proofs.decode.service_step.Reads as service-step-reads
 
--- src/decode.rt:300:13
 shared-slice-read-c : tie.Need-shared-slice-read-c
 shared-slice-read-c c = search needs
 
--- src/decode.rt:302:9
 cloud-step-requires : tie.Need-cloud-step-requires
 cloud-step-requires c κs = search needs
 
--- src/decode.rt:302:9
 returns : tie.Need-returns
-returns c = ?
+returns c = simp (eq-eqb _ _ (c .before .if1 .taken)) (c .cloud-step .ensures)
 
--- src/decode.rt:305:9
 datum-step-requires : tie.Need-datum-step-requires
 datum-step-requires c κs = search needs
 
--- src/decode.rt:305:9
 returns-2 : tie.Need-returns-2
-returns-2 c = ?
+returns-2 c = simp (ne-eqb _ _ (c .before .before .if1 .left), eq-eqb _ _ (c .before .if2 .taken)) (c .datum-step .ensures)
 
--- src/decode.rt:308:9
 service-step-requires : tie.Need-service-step-requires
 service-step-requires c κs = search needs
 
--- src/decode.rt:308:9
 returns-3 : tie.Need-returns-3
-returns-3 c = ?
+returns-3 c = simp (ne-eqb _ _ (c .before .before .before .if1 .left), ne-eqb _ _ (c .before .before .if2 .left), eq-eqb _ _ (c .before .if3 .taken)) (c .service-step .ensures)
 
--- src/decode.rt:311:9
 edge-step-requires : tie.Need-edge-step-requires
 edge-step-requires c κs = search needs
 
--- src/decode.rt:311:9
 returns-4 : tie.Need-returns-4
-returns-4 c = ?
+returns-4 c = simp (ne-eqb _ _ (c .before .before .before .before .if1 .left), ne-eqb _ _ (c .before .before .before .if2 .left), ne-eqb _ _ (c .before .before .if3 .left), eq-eqb _ _ (c .before .if4 .taken)) (c .edge-step .ensures)
 
--- src/decode.rt:314:9
 edge-step-requires-2 : tie.Need-edge-step-requires-2
 edge-step-requires-2 c κs = search needs
 
--- src/decode.rt:314:9
 returns-5 : tie.Need-returns-5
-returns-5 c = ?
+returns-5 c = simp (ne-eqb _ _ (c .before .before .before .before .before .if1 .left), ne-eqb _ _ (c .before .before .before .before .if2 .left), ne-eqb _ _ (c .before .before .before .if3 .left), ne-eqb _ _ (c .before .before .if4 .left), eq-eqb _ _ (c .before .if5 .taken)) (c .edge-step2 .ensures)
 
--- src/decode.rt:317:9
 pin-step-requires : tie.Need-pin-step-requires
 pin-step-requires c κs = search needs
 
--- src/decode.rt:317:9
 returns-6 : tie.Need-returns-6
-returns-6 c = ?
+returns-6 c = simp (ne-eqb _ _ (c .before .before .before .before .before .before .if1 .left), ne-eqb _ _ (c .before .before .before .before .before .if2 .left), ne-eqb _ _ (c .before .before .before .before .if3 .left), ne-eqb _ _ (c .before .before .before .if4 .left), ne-eqb _ _ (c .before .before .if5 .left), eq-eqb _ _ (c .before .if6 .taken)) (c .pin-step .ensures)
 
--- src/decode.rt:319:5
 faulty-requires : tie.Need-faulty-requires
 faulty-requires c κs = search needs
 
--- src/decode.rt:296:1
 returns-7 : tie.Need-returns-7
-returns-7 c = ?
+returns-7 c = stops (c .before .before .before .before .before .before .before .before .before .args .s .now) (commandAt (c .before .before .before .before .before .before .before .before .before .args .s .now) (describes (c .before .before .before .before .before .before .before .before .before .args .w))) (c .faulty .ensures) (simp (ne-eqb _ _ (c .before .before .before .before .before .before .if1 .left), ne-eqb _ _ (c .before .before .before .before .before .if2 .left), ne-eqb _ _ (c .before .before .before .before .if3 .left), ne-eqb _ _ (c .before .before .before .if4 .left), ne-eqb _ _ (c .before .before .if5 .left), ne-eqb _ _ (c .before .if6 .left))) (simp (ne-eqb _ _ (c .before .before .before .before .before .before .if1 .left), ne-eqb _ _ (c .before .before .before .before .before .if2 .left), ne-eqb _ _ (c .before .before .before .before .if3 .left), ne-eqb _ _ (c .before .before .before .if4 .left), ne-eqb _ _ (c .before .before .if5 .left), ne-eqb _ _ (c .before .if6 .left), (let h : 1 ≤ length (c .before .before .before .before .before .before .before .before .before .args .s .now) = omega arith in le-ltb _ _ h)))
 
 pub command-step-spec : {M : Type 1} → statement M
 command-step-spec =

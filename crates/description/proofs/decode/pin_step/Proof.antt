@@ -1,92 +1,73 @@
+-- Each return by the tests that led there.
+use mathlib.Core.Path.{_≡_, refl, sym, ap, _∙_}
+use native.Mathlib.Omega.{arith}
+use Prim.Native.Nat.{_≤_, _<_, _-_}
+use lib.ListN.{length, drop, getD}
+use borrow.Author.Tests.{eq-eqb, ne-eqb, lt-ltb, le-ltb, le-leb, lt-leb, not-true, not-false}
+use Rattle.description.proofs.Steps.{stops, goes}
+use Rattle.description.specs.Meaning.{describes}
+use Rattle.description.specs.Format.{pinAt, isPinned, block, withPin}
+use Rattle.sequences.proofs.Loops.{told}
 use borrow.Author.Needs.{needs}
 use Rattle.description.proofs.decode.pin_step.Statement.{statement}
 use Rattle.description.proofs.decode.pin_step.Tie as tie
-use Rattle.description.proofs.decode.pin_step.Reads as reads
-use Rattle.description.proofs.decode.pin_step.Lts as lts
-use Rattle.description.proofs.decode.faulty.Reads as faulty-reads
-use Rattle.description.proofs.decode.is_pinned.Reads as is-pinned-reads
-use Rattle.description.proofs.decode.taken.Reads as taken-reads
-use Rattle.description.proofs.decode.wide.Reads as wide-reads
-use Rattle.description.proofs.workflow.block_at.Reads as block-at-reads
-use Rattle.description.proofs.workflow.block_count.Reads as block-count-reads
-use Rattle.description.proofs.workflow.cloud_count.Reads as cloud-count-reads
-use Rattle.description.proofs.workflow.with_pin.Reads as with-pin-reads
 
--- src/decode.rt:277:9
 faulty-requires : tie.Need-faulty-requires
 faulty-requires c κs = search needs
 
--- src/decode.rt:277:9
 returns : tie.Need-returns
-returns c = ?
+returns c = stops (c .before .before .before .args .s .now) (pinAt (c .before .before .before .args .s .now) (describes (c .before .before .before .args .w))) (c .faulty .ensures) refl (simp (lt-ltb _ _ (c .before .if1 .taken)))
 
--- src/decode.rt:279:18
 shared-slice-read-wide : tie.Need-shared-slice-read-wide
 shared-slice-read-wide c = search needs
 
--- src/decode.rt:279:9
 wide-requires : tie.Need-wide-requires
 wide-requires c κs = search needs
 
--- src/decode.rt:280:13
 shared-slice-read-k : tie.Need-shared-slice-read-k
 shared-slice-read-k c = search needs
 
--- src/decode.rt:281:8
 block-count-requires : tie.Need-block-count-requires
 block-count-requires c κs = search needs
 
--- src/decode.rt:282:9
 faulty-requires-2 : tie.Need-faulty-requires-2
 faulty-requires-2 c κs = search needs
 
--- src/decode.rt:282:9
 returns-2 : tie.Need-returns-2
-returns-2 c = ?
+returns-2 c = stops (c .before .before .before .before .before .before .before .before .args .s .now) (pinAt (c .before .before .before .before .before .before .before .before .args .s .now) (describes (c .before .before .before .before .before .before .before .before .args .w))) (c .faulty2 .ensures) refl (simp (le-ltb _ _ (c .before .before .before .before .before .before .if1 .left), (let h : length ((describes (c .before .before .before .before .before .before .before .before .args .w)) .blocks) ≤ getD (c .before .before .before .before .before .before .before .before .args .s .now) 1 0 = omega arith in le-ltb _ _ h)))
 
--- src/decode.rt:284:8
 cloud-count-requires : tie.Need-cloud-count-requires
 cloud-count-requires c κs = search needs
 
--- src/decode.rt:284:26
 wide-requires-2 : tie.Need-wide-requires-2
 wide-requires-2 c κs = search needs
 
--- src/decode.rt:285:9
 faulty-requires-3 : tie.Need-faulty-requires-3
 faulty-requires-3 c κs = search needs
 
--- src/decode.rt:285:9
 returns-3 : tie.Need-returns-3
-returns-3 c = ?
+returns-3 c = stops (c .before .before .before .before .before .before .before .before .before .before .before .args .s .now) (pinAt (c .before .before .before .before .before .before .before .before .before .before .before .args .s .now) (describes (c .before .before .before .before .before .before .before .before .before .before .before .args .w))) (c .faulty3 .ensures) refl (simp (le-ltb _ _ (c .before .before .before .before .before .before .before .before .before .if1 .left), (let h : getD (c .before .before .before .before .before .before .before .before .before .before .before .args .s .now) 1 0 < length ((describes (c .before .before .before .before .before .before .before .before .before .before .before .args .w)) .blocks) = omega arith in lt-ltb _ _ h), (let h : length ((describes (c .before .before .before .before .before .before .before .before .before .before .before .args .w)) .clouds) ≤ getD (c .before .before .before .before .before .before .before .before .before .before .before .args .s .now) 2 0 = omega arith in le-ltb _ _ h)))
 
--- src/decode.rt:287:9
 block-at-requires : tie.Need-block-at-requires
 block-at-requires c κs = search needs
 
--- src/decode.rt:289:8
 is-pinned-requires : tie.Need-is-pinned-requires
 is-pinned-requires c κs = search needs
 
--- src/decode.rt:290:9
 faulty-requires-4 : tie.Need-faulty-requires-4
 faulty-requires-4 c κs = search needs
 
--- src/decode.rt:290:9
 returns-4 : tie.Need-returns-4
-returns-4 c = ?
+returns-4 c = stops (c .before .before .before .before .before .before .before .before .before .before .before .before .before .before .args .s .now) (pinAt (c .before .before .before .before .before .before .before .before .before .before .before .before .before .before .args .s .now) (describes (c .before .before .before .before .before .before .before .before .before .before .before .before .before .before .args .w))) (c .faulty4 .ensures) refl (simp (le-ltb _ _ (c .before .before .before .before .before .before .before .before .before .before .before .before .if1 .left), (let h : getD (c .before .before .before .before .before .before .before .before .before .before .before .before .before .before .args .s .now) 1 0 < length ((describes (c .before .before .before .before .before .before .before .before .before .before .before .before .before .before .args .w)) .blocks) = omega arith in lt-ltb _ _ h), (let h : getD (c .before .before .before .before .before .before .before .before .before .before .before .before .before .before .args .s .now) 2 0 < length ((describes (c .before .before .before .before .before .before .before .before .before .before .before .before .before .before .args .w)) .clouds) = omega arith in lt-ltb _ _ h), told (λ n. isPinned (block (describes (c .before .before .before .before .before .before .before .before .before .before .before .before .before .before .args .w)) n .pin)) (c .before .before .before .before .before .before .before .before .before .before .wide .ensures) (c .before .before .is-pinned .ensures ∙ ap (λ b. isPinned (b .pin)) (c .before .before .before .block-at .ensures)) (c .before .if4 .taken)))
 
--- src/decode.rt:292:14
 with-pin-requires : tie.Need-with-pin-requires
 with-pin-requires c κs = search needs
 
--- src/decode.rt:292:5
 taken-requires : tie.Need-taken-requires
 taken-requires c κs = search needs
 
--- src/decode.rt:273:1
 returns-5 : tie.Need-returns-5
-returns-5 c = ?
+returns-5 c = goes (c .before .before .before .before .before .before .before .before .before .before .before .before .before .before .before .args .s .now) (pinAt (c .before .before .before .before .before .before .before .before .before .before .before .before .before .before .before .args .s .now) (describes (c .before .before .before .before .before .before .before .before .before .before .before .before .before .before .before .args .w))) (c .taken .ensures) refl (simp (le-ltb _ _ (c .before .before .before .before .before .before .before .before .before .before .before .before .before .if1 .left), (let h : getD (c .before .before .before .before .before .before .before .before .before .before .before .before .before .before .before .args .s .now) 1 0 < length ((describes (c .before .before .before .before .before .before .before .before .before .before .before .before .before .before .before .args .w)) .blocks) = omega arith in lt-ltb _ _ h), (let h : getD (c .before .before .before .before .before .before .before .before .before .before .before .before .before .before .before .args .s .now) 2 0 < length ((describes (c .before .before .before .before .before .before .before .before .before .before .before .before .before .before .before .args .w)) .clouds) = omega arith in lt-ltb _ _ h), told (λ n. isPinned (block (describes (c .before .before .before .before .before .before .before .before .before .before .before .before .before .before .before .args .w)) n .pin)) (c .before .before .before .before .before .before .before .before .before .before .before .wide .ensures) (c .before .before .before .is-pinned .ensures ∙ ap (λ b. isPinned (b .pin)) (c .before .before .before .before .block-at .ensures)) (c .before .before .if4 .left))) (c .before .with-pin .ensures ∙ ap (λ n. withPin (describes (c .before .before .before .before .before .before .before .before .before .before .before .before .before .before .before .args .w)) n (getD (c .before .before .before .before .before .before .before .before .before .before .before .before .before .before .before .args .s .now) 2 0)) (c .before .before .before .before .before .before .before .before .before .before .before .wide .ensures))
 
 pub pin-step-spec : {M : Type 1} → statement M
 pin-step-spec =

@@ -1,81 +1,66 @@
+-- Each return by the tests that led there.
+use mathlib.Core.Path.{_≡_, refl, sym, ap, _∙_}
+use native.Mathlib.Omega.{arith}
+use Prim.Native.Nat.{_≤_, _<_, _-_}
+use lib.ListN.{length, drop, getD}
+use borrow.Author.Tests.{eq-eqb, ne-eqb, lt-ltb, le-ltb, le-leb, lt-leb, not-true, not-false}
+use Rattle.description.proofs.Steps.{stops, goes}
+use Rattle.description.specs.Meaning.{describes}
+use Rattle.description.specs.Format.{serviceAt}
 use borrow.Author.Needs.{needs}
 use Rattle.description.proofs.decode.service_step.Statement.{statement}
 use Rattle.description.proofs.decode.service_step.Tie as tie
-use Rattle.description.proofs.decode.service_step.Reads as reads
-use Rattle.description.proofs.decode.service_step.Lts as lts
-use Rattle.description.proofs.decode.be32.Reads as be32-reads
-use Rattle.description.proofs.decode.faulty.Reads as faulty-reads
-use Rattle.description.proofs.decode.taken.Reads as taken-reads
-use Rattle.description.proofs.workflow.block_count.Reads as block-count-reads
-use Rattle.description.proofs.workflow.with_block.Reads as with-block-reads
 
--- src/decode.rt:223:9
 faulty-requires : tie.Need-faulty-requires
 faulty-requires c κs = search needs
 
--- src/decode.rt:223:9
 returns : tie.Need-returns
-returns c = ?
+returns c = stops (c .before .before .before .args .s .now) (serviceAt (c .before .before .before .args .s .now) (describes (c .before .before .before .args .w))) (c .faulty .ensures) refl (simp (lt-ltb _ _ (c .before .if1 .taken)))
 
--- src/decode.rt:225:14
 block-count-requires : tie.Need-block-count-requires
 block-count-requires c κs = search needs
 
--- src/decode.rt:226:9
 faulty-requires-2 : tie.Need-faulty-requires-2
 faulty-requires-2 c κs = search needs
 
--- src/decode.rt:226:9
 returns-2 : tie.Need-returns-2
-returns-2 c = ?
+returns-2 c = stops (c .before .before .before .before .before .args .s .now) (serviceAt (c .before .before .before .before .before .args .s .now) (describes (c .before .before .before .before .before .args .w))) (c .faulty2 .ensures) refl (simp (le-ltb _ _ (c .before .before .before .if1 .left), (let h : 16 ≤ length (describes (c .before .before .before .before .before .args .w) .blocks) = omega arith in le-leb _ _ h)))
 
--- src/decode.rt:228:13
 shared-slice-read-if3 : tie.Need-shared-slice-read-if3
 shared-slice-read-if3 c = search needs
 
--- src/decode.rt:229:9
 faulty-requires-3 : tie.Need-faulty-requires-3
 faulty-requires-3 c κs = search needs
 
--- src/decode.rt:229:9
 returns-3 : tie.Need-returns-3
-returns-3 c = ?
+returns-3 c = stops (c .before .before .before .before .before .before .before .args .s .now) (serviceAt (c .before .before .before .before .before .before .before .args .s .now) (describes (c .before .before .before .before .before .before .before .args .w))) (c .faulty3 .ensures) refl (simp (le-ltb _ _ (c .before .before .before .before .before .if1 .left), (let h : length (describes (c .before .before .before .before .before .before .before .args .w) .blocks) < 16 = omega arith in lt-leb _ _ h), lt-ltb _ _ (c .before .if3 .taken)))
 
--- src/decode.rt:231:13
 shared-slice-read-if4 : tie.Need-shared-slice-read-if4
 shared-slice-read-if4 c = search needs
 
--- src/decode.rt:232:9
 faulty-requires-4 : tie.Need-faulty-requires-4
 faulty-requires-4 c κs = search needs
 
--- src/decode.rt:232:9
 returns-4 : tie.Need-returns-4
-returns-4 c = ?
+returns-4 c = stops (c .before .before .before .before .before .before .before .before .before .args .s .now) (serviceAt (c .before .before .before .before .before .before .before .before .before .args .s .now) (describes (c .before .before .before .before .before .before .before .before .before .args .w))) (c .faulty4 .ensures) refl (simp (le-ltb _ _ (c .before .before .before .before .before .before .before .if1 .left), (let h : length (describes (c .before .before .before .before .before .before .before .before .before .args .w) .blocks) < 16 = omega arith in lt-leb _ _ h), le-ltb _ _ (c .before .before .before .if3 .left), lt-ltb _ _ (c .before .if4 .taken)))
 
--- src/decode.rt:235:16
 shared-slice-read-t7 : tie.Need-shared-slice-read-t7
 shared-slice-read-t7 c = search needs
 
--- src/decode.rt:237:24
 shared-slice-read-t11 : tie.Need-shared-slice-read-t11
 shared-slice-read-t11 c = search needs
 
--- src/decode.rt:238:20
 be32-requires : tie.Need-be32-requires
 be32-requires c κs = search needs
 
--- src/decode.rt:242:14
 with-block-requires : tie.Need-with-block-requires
 with-block-requires c κs = search needs
 
--- src/decode.rt:242:5
 taken-requires : tie.Need-taken-requires
 taken-requires c κs = search needs
 
--- src/decode.rt:219:1
 returns-5 : tie.Need-returns-5
-returns-5 c = ?
+returns-5 c = goes (c .before .before .before .before .before .before .before .before .before .before .before .before .before .args .s .now) (serviceAt (c .before .before .before .before .before .before .before .before .before .before .before .before .before .args .s .now) (describes (c .before .before .before .before .before .before .before .before .before .before .before .before .before .args .w))) (c .taken .ensures) refl (simp (le-ltb _ _ (c .before .before .before .before .before .before .before .before .before .before .before .if1 .left), (let h : length (describes (c .before .before .before .before .before .before .before .before .before .before .before .before .before .args .w) .blocks) < 16 = omega arith in lt-leb _ _ h), le-ltb _ _ (c .before .before .before .before .before .before .before .if3 .left), le-ltb _ _ (c .before .before .before .before .before .if4 .left))) (c .before .with-block .ensures ∙ simp (c .before .before .be32 .ensures))
 
 pub service-step-spec : {M : Type 1} → statement M
 service-step-spec =

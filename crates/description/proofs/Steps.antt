@@ -1,0 +1,56 @@
+-- What a step says of its command: it stops with a fault, or it goes on.
+use mathlib.Core.Path.{_≡_, refl, sym, ap, _∙_, subst}
+use Prim.Native.Nat.{ℕ}
+use mathlib.Core.Bool.{Bool, true, false, not, _&&_, _||_, cond}
+use mathlib.Core.List.{List}
+use mathlib.Core.Option.{Option, none, some}
+use native.Mathlib.Omega.{arith}
+use Rattle.description.specs.declared.workflow.Workflow.{Workflow}
+use Rattle.description.specs.declared.decode.Checked.the-variants.{Sound, Fault}
+use Rattle.description.specs.declared.decode.Step.{Step}
+use Rattle.description.specs.declared.workflow.Edge.{Edge}
+use Rattle.description.specs.declared.workflow.Way.{Way}
+use Rattle.description.specs.declared.workflow.Way.the-variants.{Reads, Writes}
+use Rattle.description.specs.Format.{Command, faultOf, clash, isWrite, sameWay}
+use Rattle.description.specs.Meaning.{describes, faultIn, Steps}
+use lib.Dec.{eqb}
+
+some≢none : {n : ℕ} → some n ≡ none → ⊥
+some≢none e = let z : _≡_ {A = ℕ} 0 1 = cc in omega arith
+
+module _ (s : List ℕ) (c : Command) {w : Workflow} {r : Step} where
+  pub stops : {n k : ℕ} → r ≡ record { fault = Fault n; width = k; workflow = w } → k ≡ c .width → faultOf s c ≡ some n → Steps s c r
+  stops e k f = record {
+    fault = ap (λ t. faultIn (t .fault)) e ∙ sym f;
+    width = ap (λ t. t .width) e ∙ k;
+    after = λ g. absurd (some≢none (sym f ∙ g));
+  }
+
+  pub goes : {k : ℕ} → r ≡ record { fault = Sound; width = k; workflow = w } → k ≡ c .width → faultOf s c ≡ none → describes w ≡ c .after → Steps s c r
+  goes e k f a = record {
+    fault = ap (λ t. faultIn (t .fault)) e ∙ sym f;
+    width = ap (λ t. t .width) e ∙ k;
+    after = λ g. ap (λ t. describes (t .workflow)) e ∙ a;
+  }
+
+-- Edges of one datum clash where both write, and where both read and the service is the same; those of two data never do.
+pub clash-is : (e f : Edge) → clash e f ≡ (eqb (e .datum) (f .datum) && cond (isWrite (e .way)) (isWrite (f .way)) (not (isWrite (f .way)) && eqb (e .service) (f .service)))
+clash-is e f = go (e .way) (f .way) (eqb (e .service) (f .service)) (eqb (e .datum) (f .datum))
+  where
+    go : (x y : Way) (s d : Bool) → ((sameWay x y && s && d) || (isWrite x && isWrite y && d)) ≡ (d && cond (isWrite x) (isWrite y) (not (isWrite y) && s))
+    go Reads Reads true true = refl
+    go Reads Reads true false = refl
+    go Reads Reads false true = refl
+    go Reads Reads false false = refl
+    go Reads Writes true true = refl
+    go Reads Writes true false = refl
+    go Reads Writes false true = refl
+    go Reads Writes false false = refl
+    go Writes Reads true true = refl
+    go Writes Reads true false = refl
+    go Writes Reads false true = refl
+    go Writes Reads false false = refl
+    go Writes Writes true true = refl
+    go Writes Writes true false = refl
+    go Writes Writes false true = refl
+    go Writes Writes false false = refl

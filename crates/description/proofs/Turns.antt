@@ -1,0 +1,99 @@
+-- One turn of reading: what readFrom gives at a command that stands at an offset of the input.
+use mathlib.Core.Path.{_≡_, refl, sym, ap, _∙_}
+use Prim.Native.Nat.{ℕ, zero, suc, pred, _+_, _-_, _≤_, _<_}
+use native.Mathlib.Nat.{add-zero, add-suc, suc-add, not-suc-le-zero, le-of-suc-le-suc}
+use native.Mathlib.Numerals.{add-one}
+use native.Mathlib.Omega.{arith}
+use mathlib.Core.Bool.{Bool, true, false, cond}
+use mathlib.Core.List.{List, [], _∷_}
+use mathlib.Core.Option.{Option, none, some}
+use lib.ListN.{length, getD, take, drop, length-drop, drop-of-length-le}
+use lib.Seq.{drop-cons, drop-drop, take-all}
+use lib.Dec.{ltb, eqb, lit≤}
+use borrow.Author.Tests.{eq-eqb, ne-eqb, ltb-false}
+use Rattle.sequences.specs.Results.{Result, ok, refused}
+use Rattle.description.specs.Format.{Description, Command, readFrom, ended, commandAt, firstFault, faultOf}
+
+-- the bytes of a command that was read are stepped over at once
+skipped : (rest : List ℕ) (k at : ℕ) (d : Description) → k ≤ length rest → readFrom rest k at d ≡ readFrom (drop k rest) 0 (at + k) d
+skipped rest zero at d h = ap (λ n. readFrom rest 0 n d) (sym (add-zero at))
+skipped [] (suc k) at d h = absurd (not-suc-le-zero h)
+skipped (b ∷ rest) (suc k) at d h =
+    skipped rest k (suc at) d (le-of-suc-le-suc h) ∙ ap (λ n. readFrom (drop k rest) 0 n d) (suc-add at k ∙ sym (add-suc at k))
+
+-- a command with no fault is whole, and no command is empty
+no-fault : (b : Bool) (fs : List (ℕ × Bool)) → firstFault ((1, b) ∷ fs) ≡ none → b ≡ false
+no-fault false fs e = refl
+no-fault true fs e = let z : _≡_ {A = ℕ} 0 1 = cc in absurd (omega arith)
+
+pub whole : (s : List ℕ) (c : Command) → faultOf s c ≡ none → c .width ≤ length s
+whole s c e = ltb-false (length s) (c .width) (no-fault (ltb (length s) (c .width)) (c .faults) e)
+
+either : (P : Command → Type 0) (b : Bool) {x y : Command} → P x → P y → P (cond b x y)
+either P true p q = p
+either P false p q = q
+
+pub width-positive : (s : List ℕ) (d : Description) → 1 ≤ commandAt s d .width
+width-positive s d =
+    let P : Command → Type 0 = λ c. 1 ≤ c .width in
+    either P (eqb (getD s 0 0) 1) (lit≤ tt)
+    (either P (eqb (getD s 0 0) 2) (lit≤ tt)
+    (either P (eqb (getD s 0 0) 3) (lit≤ tt)
+    (either P (eqb (getD s 0 0) 4) (lit≤ tt)
+    (either P (eqb (getD s 0 0) 5) (lit≤ tt)
+    (either P (eqb (getD s 0 0) 6) (lit≤ tt) (lit≤ tt))))))
+
+-- at a list with a head
+module _ (b : ℕ) (rest : List ℕ) (at : ℕ) (d : Description) where
+  ends : eqb b 0 ≡ true → readFrom (b ∷ rest) 0 at d ≡ ended rest (suc at) d
+  ends e = rw (e, readFrom)
+
+  fails : {n : ℕ} → eqb b 0 ≡ false → faultOf (b ∷ rest) (commandAt (b ∷ rest) d) ≡ some n → readFrom (b ∷ rest) 0 at d ≡ refused n at
+  fails e f = rw (e, f, readFrom)
+
+  goes : eqb b 0 ≡ false → faultOf (b ∷ rest) (commandAt (b ∷ rest) d) ≡ none
+      → readFrom (b ∷ rest) 0 at d ≡ readFrom rest (pred (commandAt (b ∷ rest) d .width)) (suc at) (commandAt (b ∷ rest) d .after)
+  goes e f = rw (e, f, readFrom)
+
+-- at offset `at` of the input s
+module _ (s : List ℕ) (at : ℕ) (d : Description) where
+  pub nothing-left : length s ≤ at → readFrom (drop at s) 0 at d ≡ refused 1 at
+  nothing-left h = ap (λ l. readFrom l 0 at d) (drop-of-length-le s h)
+
+  module _ (h : at < length s) where
+    head : drop at s ≡ getD s at 0 ∷ drop (suc at) s
+    head = drop-cons s at 0 h
+
+    pub ends-input : getD s at 0 ≡ 0 → at + 1 ≡ length s → readFrom (drop at s) 0 at d ≡ ok d
+    ends-input z e =
+        ap (λ l. readFrom l 0 at d) head ∙ ends (getD s at 0) (drop (suc at) s) at d (eq-eqb _ _ z) ∙
+        ap (λ l. ended l (suc at) d) (drop-of-length-le s {i = suc at} (omega arith))
+
+    pub ends-early : getD s at 0 ≡ 0 → (at + 1 ≡ length s → ⊥) → readFrom (drop at s) 0 at d ≡ refused 3 (at + 1)
+    ends-early z e =
+        ap (λ l. readFrom l 0 at d) head ∙ ends (getD s at 0) (drop (suc at) s) at d (eq-eqb _ _ z) ∙
+        ap (λ l. ended l (suc at) d) (drop-cons s (suc at) 0 (omega arith)) ∙ ap (refused 3) (sym (add-one at))
+
+    module _ (z : getD s at 0 ≡ 0 → ⊥) where
+      pub stops-at : {n : ℕ} → faultOf (drop at s) (commandAt (drop at s) d) ≡ some n → readFrom (drop at s) 0 at d ≡ refused n at
+      stops-at f =
+          ap (λ l. readFrom l 0 at d) head ∙
+          fails (getD s at 0) (drop (suc at) s) at d (ne-eqb _ _ z) (sym (ap (λ l. faultOf l (commandAt l d)) head) ∙ f)
+
+      pub goes-on : (w : ℕ) → w ≡ commandAt (drop at s) d .width → faultOf (drop at s) (commandAt (drop at s) d) ≡ none
+          → readFrom (drop at s) 0 at d ≡ readFrom (drop (at + w) s) 0 (at + w) (commandAt (drop at s) d .after)
+      goes-on w e f =
+          let one : 1 ≤ w = omega (arith, e, width-positive (drop at s) d) in
+          let fits : w ≤ length (drop at s) = omega (arith, e, whole (drop at s) (commandAt (drop at s) d) f) in
+          let l : length (drop at s) ≡ length s - at = length-drop at s in
+          let q : suc at + pred w ≡ at + w = omega arith in
+          ap (λ l. readFrom l 0 at d) head ∙
+          goes (getD s at 0) (drop (suc at) s) at d (ne-eqb _ _ z) (sym (ap (λ l. faultOf l (commandAt l d)) head) ∙ f) ∙
+          ap (λ l. readFrom (drop (suc at) s) (pred (commandAt l d .width)) (suc at) (commandAt l d .after)) (sym head) ∙
+          ap (λ (k : ℕ). readFrom (drop (suc at) s) (pred k) (suc at) (commandAt (drop at s) d .after)) (sym e) ∙
+          skipped (drop (suc at) s) (pred w) (suc at) (commandAt (drop at s) d .after) (simp length-drop (omega arith)) ∙
+          rw (drop-drop, q)
+
+-- the part of the input that starts at a command
+pub part-is : (s : List ℕ) (at : ℕ) → take (length s - at) (drop at s) ≡ drop at s
+part-is s at = take-all (length s - at) (drop at s) (simp length-drop (omega arith))

@@ -1,0 +1,22 @@
+-- Sums of bounded terms.
+use Prim.Native.Nat.{ℕ, zero, suc, _*_, _≤_}
+use native.Mathlib.Nat.{le-trans, suc-mul, mul-le-mul-right}
+use native.Mathlib.Omega.{arith}
+use mathlib.Core.Path.{_≡_, refl, ap}
+use mathlib.Core.List.{List, [], _∷_, map}
+use lib.ListN.{length}
+use Rattle.sequences.specs.Lists.{from, sum}
+
+-- n numbers are counted out
+pub length-from : (k n : ℕ) → length (from k n) ≡ n
+length-from k zero = refl
+length-from k (suc n) = ap suc (length-from (suc k) n)
+
+-- where no term exceeds m, a sum of at most n terms doesn't exceed n times m
+module _ {A : Type 0} (f : A → ℕ) (m : ℕ) (most : (a : A) → f a ≤ m) where
+  pub sum-most : (l : List A) → sum (map f l) ≤ length l * m
+  sum-most [] = omega arith
+  sum-most (x ∷ l) = rw suc-mul (omega (arith, most x, sum-most l))
+
+  pub sum-most-of : (n : ℕ) (l : List A) → length l ≤ n → sum (map f l) ≤ n * m
+  sum-most-of n l h = le-trans (sum-most l) (mul-le-mul-right m h)

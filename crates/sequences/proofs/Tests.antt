@@ -1,0 +1,42 @@
+-- Tests in proofs: what holds of a choice by a test, and what a test that failed says of its parts.
+use Prim.Native.Nat.{ℕ, zero, suc, _<_}
+use native.Mathlib.Nat.{le-of-suc-le-suc, not-suc-le-zero}
+use native.Mathlib.Omega.{arith}
+use native.Mathlib.Decide.{ℕ-discrete}
+use mathlib.Core.Path.{_≡_, refl, sym, _∙_}
+use mathlib.Core.Bool.{Bool, true, false, cond, _||_, true≢false}
+use mathlib.Core.Option.{Option, none, some}
+use mathlib.Core.List.{List, [], _∷_}
+use lib.ListN.{length, getD}
+use lib.Dec.{eqb}
+use borrow.Author.Tests.{eq-eqb, ne-eqb}
+use Rattle.sequences.specs.Lists.{any}
+
+-- what holds of either branch, where it is taken, holds of the choice
+module _ {A : Type 0} (P : A → Type 0) where
+  pub choice : (b : Bool) (x y : A) → (b ≡ true → P x) → (b ≡ false → P y) → P (cond b x y)
+  choice true x y f g = f refl
+  choice false x y f g = g refl
+
+-- a choice of nothing: the test failed, and the other choice is nothing
+pub cond-none : {A : Type 0} (t : Bool) (a : A) (o : Option A) → cond t (some a) o ≡ none → (t ≡ false) × (o ≡ none)
+cond-none true a o e = let z : _≡_ {A = ℕ} 0 1 = cc in absurd (omega arith)
+cond-none false a o e = (refl, e)
+
+-- an `or` that failed: both of its parts did
+pub or-fails : (a b : Bool) → a || b ≡ false → (a ≡ false) × (b ≡ false)
+or-fails true b e = absurd (true≢false e)
+or-fails false b e = (refl, e)
+
+-- no element passes: none at any position does
+pub any-fails : {A : Type 0} (t : A → Bool) (d : A) (l : List A) → any t l ≡ false → (i : ℕ) → i < length l → t (getD l i d) ≡ false
+any-fails t d [] e i h = absurd (not-suc-le-zero h)
+any-fails t d (x ∷ l) e zero h = or-fails (t x) (any t l) e .0
+any-fails t d (x ∷ l) e (suc i) h = any-fails t d l (or-fails (t x) (any t l) e .1) i (le-of-suc-le-suc h)
+
+-- equality is tested the same way round or the other
+pub eqb-turn : (m n : ℕ) → eqb m n ≡ eqb n m
+eqb-turn m n = elim (ℕ-discrete m n) [
+  | yes e ↦ eq-eqb m n e ∙ sym (eq-eqb n m (sym e))
+  | no f ↦ ne-eqb m n f ∙ sym (ne-eqb n m (λ e. f (sym e)))
+]
