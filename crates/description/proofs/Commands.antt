@@ -10,7 +10,7 @@ use lib.Dec.{ltb, eqb}
 use borrow.Author.Tests.{ltb-true, ltb-false, leb-false, not-false}
 use Rattle.sequences.specs.Lists.{any}
 use Rattle.sequences.proofs.Positions.{everywhere-snoc, everywhere-set}
-use Rattle.sequences.proofs.Tests.{choice, cond-none, or-fails}
+use Rattle.sequences.proofs.Tests.{cond-ind, cond-none, or-fails}
 use Rattle.description.specs.declared.workflow.Cloud.{Cloud}
 use Rattle.description.specs.declared.workflow.Block.{Block}
 use Rattle.description.specs.declared.workflow.Kind.the-variants.{Datum, Service}
@@ -144,7 +144,7 @@ module _ {B : List ℕ → Type 0} {P : Description → Type 0} (k : Keeps B P) 
   keeps-command s d b p = all .kept
     where
       first : (n : ℕ) (x y : Command) → (faultOf s x ≡ none → P (x .after)) → Kept P s y → Kept P s (cond (eqb (u8At s 0) n) x y)
-      first n x y f g = choice (Kept P s) (eqb (u8At s 0) n) x y (λ _. record { kept = f }) (λ _. g)
+      first n x y f g = cond-ind (Kept P s) (eqb (u8At s 0) n) x y (λ _. record { kept = f }) (λ _. g)
 
       all : Kept P s (commandAt s d)
       all =

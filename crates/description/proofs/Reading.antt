@@ -9,7 +9,7 @@ use lib.ListN.{length}
 use lib.Dec.{eqb}
 use borrow.Author.Tests.{eqb-false}
 use Rattle.sequences.specs.Results.{ok, refused}
-use Rattle.sequences.proofs.Results.{ok-inj, refused-not-ok, andThen-ok, cond-ok}
+use Rattle.sequences.proofs.Results.{ok-inj, ok-not-refused, andThen-ok, cond-ok}
 use Rattle.sequences.proofs.Tests.{or-fails}
 use Rattle.description.specs.Format.{Description, nothing, Command, commandAt, faultOf, ended, readFrom, inhabited, decode}
 use Rattle.description.specs.Bytes.{Bytes}
@@ -30,7 +30,7 @@ module _ (b : ℕ) (rest : List ℕ) (at : ℕ) (d : Description) where
 
 ended-same : (rest : List ℕ) (at : ℕ) (d e : Description) → ended rest at d ≡ ok e → d ≡ e
 ended-same [] at d e r = ok-inj r
-ended-same (b ∷ rest) at d e r = absurd (refused-not-ok r)
+ended-same (b ∷ rest) at d e r = absurd (ok-not-refused (sym r))
 
 -- decoding is reading, to something that has a cloud and a block
 pub record Declared (s : List ℕ) (d : Description) : Type 0 where
@@ -41,8 +41,8 @@ pub record Declared (s : List ℕ) (d : Description) : Type 0 where
 pub declared : (s : List ℕ) (d : Description) → decode s ≡ ok d → Declared s d
 unfolding decode
 declared s d r =
-    let (e, q, i) = andThen-ok (readFrom s 0 0 nothing) (inhabited (length s)) r in
-    let (t, k) = cond-ok (eqb (length (e .clouds)) 0 || eqb (length (e .blocks)) 0) 8 (length s) (ok e) i in
+    let (e, q, i) = andThen-ok (readFrom s 0 0 nothing) (inhabited (length s)) d .0 r in
+    let (t, k) = cond-ok (eqb (length (e .clouds)) 0 || eqb (length (e .blocks)) 0) 8 (length s) (ok e) d i in
     let f = or-fails (eqb (length (e .clouds)) 0) (eqb (length (e .blocks)) 0) t in
     subst (Declared s) (ok-inj k) (record { read = q; someCloud = omega (arith, eqb-false); someBlock = omega (arith, eqb-false) })
 
@@ -51,7 +51,7 @@ declared s d r =
 module _ (B : List ℕ → Type 0) (fewer : (b : ℕ) (s : List ℕ) → B (b ∷ s) → B s) (P : Description → Type 0)
     (keeps : (s : List ℕ) (d : Description) → B s → P d → faultOf s (commandAt s d) ≡ none → P (commandAt s d .after)) where
   reading : (s : List ℕ) (skip at : ℕ) (d e : Description) → B s → P d → readFrom s skip at d ≡ ok e → P e
-  reading [] skip at d e h p r = absurd (refused-not-ok r)
+  reading [] skip at d e h p r = absurd (ok-not-refused (sym r))
   reading (b ∷ rest) (suc skip) at d e h p r = reading rest skip (suc at) d e (fewer b rest h) p r
   reading (b ∷ rest) zero at d e h p r =
       one (eqb b 0) (faultOf s c) refl refl (λ f. reading rest (pred (c .width)) (suc at) (c .after) e (fewer b rest h) (keeps s d h p f))
@@ -65,7 +65,7 @@ module _ (B : List ℕ → Type 0) (fewer : (b : ℕ) (s : List ℕ) → B (b �
       one : (z : Bool) (f : Option ℕ) → eqb b 0 ≡ z → faultOf s c ≡ f
           → (faultOf s c ≡ none → readFrom rest (pred (c .width)) (suc at) (c .after) ≡ ok e → P e) → P e
       one true f z q next = subst P (ended-same rest (suc at) d e (sym (ends b rest at d z) ∙ r)) p
-      one false (some n) z q next = absurd (refused-not-ok (sym (fails b rest at d z q) ∙ r))
+      one false (some n) z q next = absurd (ok-not-refused (sym r ∙ fails b rest at d z q))
       one false none z q next = next q (sym (goes b rest at d z q) ∙ r)
 
   -- B of the bytes and P of nothing: P of what they are decoded to

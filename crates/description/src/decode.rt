@@ -7,7 +7,6 @@ ghost use Rattle.description.specs.Format.{isDatum, isWrite, isPinned, n
 ghost use Rattle.description.specs.Format.{u16At, u32At, cloudAt, datumAt, serviceAt, edgeAt, pinAt, commandAt};
 ghost use Rattle.description.specs.Format.{readFrom, nothing, decode};
 ghost use Rattle.description.specs.Meaning.{describes, decodingOf, Steps};
-
 use crate::workflow::Block;
 use crate::workflow::Cloud;
 use crate::workflow::Decoding;

@@ -7,8 +7,9 @@ use mathlib.Core.List.{List, [], _∷_, map}
 use lib.ListN.{length, getD}
 use Rattle.sequences.specs.Lists.{below, sum}
 use Rattle.sequences.specs.Results.{ok}
-use Rattle.sequences.proofs.Sums.{length-from, sum-most-of}
-use Rattle.sequences.proofs.Tests.{choice}
+use Rattle.sequences.proofs.Counting.{length-from}
+use Rattle.sequences.proofs.Sums.{sum-most-of}
+use Rattle.sequences.proofs.Tests.{cond-ind}
 use Rattle.description.specs.declared.workflow.Cloud.{Cloud}
 use Rattle.description.specs.declared.workflow.Kind.{Kind}
 use Rattle.description.specs.declared.workflow.Kind.the-variants.{Datum, Service}
@@ -70,7 +71,7 @@ transfer-most d h t =
 pub transfers-length : (n : ℕ) (p : List ℕ) (es : List Edge) → length (transfersFrom n p es) ≤ length es
 transfers-length n p [] = zero-le
 transfers-length n p (e ∷ es) =
-    choice (λ (l : List Transfer). length l ≤ suc (length es)) (moves p e) (transferOf n p e ∷ transfersFrom (suc n) p es) (transfersFrom (suc n) p es)
+    cond-ind (λ (l : List Transfer). length l ≤ suc (length es)) (moves p e) (transferOf n p e ∷ transfersFrom (suc n) p es) (transfersFrom (suc n) p es)
     (λ _. omega (arith, transfers-length (suc n) p es)) (λ _. omega (arith, transfers-length (suc n) p es))
 
 -- what the first n blocks come to on their clouds: all of them is `ofBlocks`

@@ -1,2 +1,6 @@
 pub mod Accepted
+pub mod Candidates
 pub mod CostBound
+pub mod Deciding
+pub mod Judging
+pub mod Reached

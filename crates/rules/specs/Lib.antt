@@ -1,7 +1,10 @@
 pub mod Accepted
 pub mod Calls
 pub mod Cost
+pub mod Inputs
 pub mod Options
 pub mod Placements
+pub mod Reached
 pub mod Soundness
+pub mod Statements
 pub mod Transfers

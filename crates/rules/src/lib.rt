@@ -1,2 +1,1 @@
 // The security and cost rules, over a description and one placement.
-

@@ -1,4 +1,9 @@
+pub mod Ascending
+pub mod Choices
+pub mod Counting
+pub mod First
 pub mod Loops
+pub mod Members
 pub mod Positions
 pub mod Results
 pub mod Sums

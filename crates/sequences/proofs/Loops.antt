@@ -1,16 +1,14 @@
 -- What a loop over a list's elements keeps: from position i on, a search, a count, a product is what it is from the next position on,
 -- with the element at i told apart.
 use mathlib.Core.Path.{_≡_, refl, sym, ap, _∙_}
-use Prim.Native.Nat.{ℕ, zero, suc, _+_, _*_, _≤_, _<_}
-use native.Mathlib.Nat.{suc-add, add-suc}
+use Prim.Native.Nat.{ℕ, suc, _+_, _*_, _≤_, _<_}
 use native.Mathlib.Numerals.{add-one}
-use native.Mathlib.Omega.{arith}
 use mathlib.Core.Bool.{Bool, true, false, cond, _||_}
 use mathlib.Core.List.{List, [], _∷_, map}
 use mathlib.Core.Option.{Option, none, some}
 use lib.ListN.{length, getD, drop, drop-of-length-le}
 use lib.Seq.{drop-cons}
-use Rattle.sequences.specs.Lists.{any, keep, firstFrom, from, below, product, sum}
+use Rattle.sequences.specs.Lists.{any, keep, firstFrom, product, sum}
 
 -- the elements from i on, with a head
 module _ {A : Type 0} (l : List A) (z : A) (i : ℕ) (h : i < length l) where
@@ -59,22 +57,6 @@ module _ {A : Type 0} (f : A → ℕ) (l : List A) (z : A) (i : ℕ) (h : i < le
 
   pub sum-next : sum (map f (drop i l)) ≡ f (getD l i z) + sum (map f (drop (i + 1) l))
   sum-next = ap (λ k. sum (map f k)) (rest l z i h)
-
--- the numbers below n: there are n, and each stands at its own position
-pub length-from : (k n : ℕ) → length (from k n) ≡ n
-length-from k zero = refl
-length-from k (suc n) = ap suc (length-from (suc k) n)
-
-pub getD-from : (k n i z : ℕ) → i < n → getD (from k n) i z ≡ k + i
-getD-from k zero i z h = absurd (omega arith)
-getD-from k (suc n) zero z h = omega arith
-getD-from k (suc n) (suc i) z h = getD-from (suc k) n i z (omega arith) ∙ (omega arith)
-
-pub length-below : (n : ℕ) → length (below n) ≡ n
-length-below = length-from 0
-
-pub getD-below : (n i z : ℕ) → i < n → getD (below n) i z ≡ i
-getD-below n i z h = getD-from 0 n i z h ∙ (omega arith)
 
 -- a test that was made of a copy of an element tells of the element
 pub told : {A : Type 0} (t : A → Bool) {x y : A} {r v : Bool} → x ≡ y → r ≡ t x → r ≡ v → t y ≡ v

@@ -1,30 +1,43 @@
--- Results in proofs: where a call comes to a value, so did each of its steps.
+-- What a result that was made by `unless`, `cond` or `andThen` tells of its parts.
 use Prim.Native.Nat.{ℕ}
 use native.Mathlib.Omega.{arith}
-use mathlib.Core.Path.{_≡_, refl}
+use mathlib.Core.Path.{_≡_, refl, sym}
+use mathlib.Core.Logic.{_↔_}
 use mathlib.Core.Bool.{Bool, true, false, cond}
-use mathlib.Core.Option.{Option, none, some}
+use mathlib.Core.Option.{Option, none, some, Option·some-ne-none}
 use Rattle.sequences.specs.Results.{Result, ok, refused, unless, andThen}
 
--- a result has one value
-pub ok-inj : {A : Type 0} {a b : A} → _≡_ {A = Result A} (ok a) (ok b) → a ≡ b
-ok-inj e = cc
+module _ {A : Type 0} where
+  -- a result has one value
+  pub ok-inj : {a b : A} → _≡_ {A = Result A} (ok a) (ok b) → a ≡ b
+  ok-inj e = cc
 
--- a refusal is no value
-pub refused-not-ok : {A : Type 0} {n m : ℕ} {a : A} → _≡_ {A = Result A} (refused n m) (ok a) → ⊥
-refused-not-ok e = let z : _≡_ {A = ℕ} 0 1 = cc in omega arith
+  -- a value is no refusal
+  pub ok-not-refused : {a : A} {number place : ℕ} → ok a ≡ refused number place → ⊥
+  ok-not-refused e = let z : _≡_ {A = ℕ} 0 1 = cc in omega arith
 
--- two steps: the first came to a value, and the second, from it, to the whole's
-pub andThen-ok : {A B : Type 0} (r : Result A) (f : A → Result B) {b : B} → andThen r f ≡ ok b → (a : A) × (r ≡ ok a) × (f a ≡ ok b)
-andThen-ok (ok a) f e = (a, refl, e)
-andThen-ok (refused n m) f e = absurd (refused-not-ok e)
+  -- a value comes only where nothing was found to refuse
+  pub unless-ok : (found : Option ℕ) (number : ℕ) (r : Result A) (a : A) → (unless found number r ≡ ok a) ↔ ((found ≡ none) × (r ≡ ok a))
+  unless-ok none number r a = (λ e. (refl, e), λ h. h .1)
+  unless-ok (some place) number r a = (λ e. absurd (ok-not-refused (sym e)), λ h. absurd (Option·some-ne-none place (h .0)))
 
--- a refusal that did not happen: no place was found for it, and the rest came to the value
-pub unless-ok : {A : Type 0} (o : Option ℕ) (n : ℕ) (r : Result A) {a : A} → unless o n r ≡ ok a → (o ≡ none) × (r ≡ ok a)
-unless-ok (some m) n r e = absurd (refused-not-ok e)
-unless-ok none n r e = (refl, e)
+  -- a refusal with this number that the rest can't give: its place was found
+  pub unless-here : (found : Option ℕ) (number place : ℕ) (r : Result A) → (r ≡ refused number place → ⊥) → unless found number r ≡ refused number place → found ≡ some place
+  unless-here none number place r never e = absurd (never e)
+  unless-here (some q) number place r never e = cc
 
--- the same of a refusal by a test
-pub cond-ok : {A : Type 0} (t : Bool) (n m : ℕ) (r : Result A) {a : A} → cond t (refused n m) r ≡ ok a → (t ≡ false) × (r ≡ ok a)
-cond-ok true n m r e = absurd (refused-not-ok e)
-cond-ok false n m r e = (refl, e)
+  -- a refusal with another number: nothing was found, and the rest gives it
+  pub unless-later : (found : Option ℕ) (number n place : ℕ) (r : Result A) → (number ≡ n → ⊥) → unless found number r ≡ refused n place → (found ≡ none) × (r ≡ refused n place)
+  unless-later none number n place r other e = (refl, e)
+  unless-later (some q) number n place r other e = absurd (other (cc))
+
+  -- a value comes only where the test that refuses failed
+  pub cond-ok : (test : Bool) (number place : ℕ) (r : Result A) (a : A) → cond test (refused number place) r ≡ ok a → (test ≡ false) × (r ≡ ok a)
+  cond-ok true number place r a e = absurd (ok-not-refused (sym e))
+  cond-ok false number place r a e = (refl, e)
+
+module _ {A B : Type 0} where
+  -- a value of two calls in a row is the second's, of the first's value
+  pub andThen-ok : (r : Result A) (f : A → Result B) (b : B) → (andThen r f ≡ ok b) ↔ ((a : A) × (r ≡ ok a) × (f a ≡ ok b))
+  andThen-ok (ok x) f b = (λ e. (x, refl, e), λ (a, e, h). let same : x ≡ a = cc in rw same h)
+  andThen-ok (refused number place) f b = (λ e. absurd (ok-not-refused (sym e)), λ (a, e, h). absurd (ok-not-refused (sym e)))

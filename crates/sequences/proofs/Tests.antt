@@ -1,10 +1,12 @@
--- Tests in proofs: what holds of a choice by a test, and what a test that failed says of its parts.
+-- Tests in proofs: a test passes or fails; what holds of both branches holds of a choice; what `&&` that passed and `||` that failed say
+-- of their parts.
 use Prim.Native.Nat.{ℕ, zero, suc, _<_}
 use native.Mathlib.Nat.{le-of-suc-le-suc, not-suc-le-zero}
 use native.Mathlib.Omega.{arith}
 use native.Mathlib.Decide.{ℕ-discrete}
 use mathlib.Core.Path.{_≡_, refl, sym, _∙_}
-use mathlib.Core.Bool.{Bool, true, false, cond, _||_, true≢false}
+use mathlib.Core.Logic.{_↔_}
+use mathlib.Core.Bool.{Bool, true, false, cond, _&&_, _||_, true≢false, false≢true}
 use mathlib.Core.Option.{Option, none, some}
 use mathlib.Core.List.{List, [], _∷_}
 use lib.ListN.{length, getD}
@@ -12,11 +14,24 @@ use lib.Dec.{eqb}
 use borrow.Author.Tests.{eq-eqb, ne-eqb}
 use Rattle.sequences.specs.Lists.{any}
 
--- what holds of either branch, where it is taken, holds of the choice
-module _ {A : Type 0} (P : A → Type 0) where
-  pub choice : (b : Bool) (x y : A) → (b ≡ true → P x) → (b ≡ false → P y) → P (cond b x y)
-  choice true x y f g = f refl
-  choice false x y f g = g refl
+-- what holds of each branch, where the test sends there, holds of the choice
+pub cond-ind : {A : Type 0} (P : A → Type 0) (test : Bool) (x y : A) → (test ≡ true → P x) → (test ≡ false → P y) → P (cond test x y)
+cond-ind P true x y f g = f refl
+cond-ind P false x y f g = g refl
+
+-- a test that does not pass fails, and the other way round
+pub not-passed : (test : Bool) → (test ≡ true → ⊥) → test ≡ false
+not-passed true f = absurd (f refl)
+not-passed false f = refl
+
+pub not-failed : (test : Bool) → (test ≡ false → ⊥) → test ≡ true
+not-failed true f = refl
+not-failed false f = absurd (f refl)
+
+-- both pass
+pub both-pass : (a b : Bool) → ((a && b) ≡ true) ↔ ((a ≡ true) × (b ≡ true))
+both-pass true b = (λ e. (refl, e), λ h. h .1)
+both-pass false b = (λ e. absurd (false≢true e), λ h. absurd (false≢true (h .0)))
 
 -- a choice of nothing: the test failed, and the other choice is nothing
 pub cond-none : {A : Type 0} (t : Bool) (a : A) (o : Option A) → cond t (some a) o ≡ none → (t ≡ false) × (o ≡ none)

@@ -45,10 +45,11 @@ loop-less c = search needs
 loop-again : tie.Need-loop-again Inv-loop μ-loop
 loop-again c =
     let at = c .before .before .before .before in
-    let start = at .before .before .args in
-    (search needs,
-    at .loop .inv .1,
-    at .loop .inv .2 ∙ any-miss (clash (start .e)) (describes (start .w) .edges) noEdge (at .loop .i) (omega arith) (told (clash (start .e)) (c .before .before .edge-at .ensures) (c .before .clashes .ensures) (c .if1 .left)))
+    let start = at .before .before .args in (
+      search needs,
+      at .loop .inv .1,
+      at .loop .inv .2 ∙ any-miss (clash (start .e)) (describes (start .w) .edges) noEdge (at .loop .i) (omega arith) (told (clash (start .e)) (c .before .before .edge-at .ensures) (c .before .clashes .ensures) (c .if1 .left)),
+    )
 
 returns-2 : tie.Need-returns-2 Inv-loop μ-loop
 returns-2 c =

@@ -25,7 +25,7 @@ unfolding describes
 returns c =
     let start = c .before in
     let fits : c .block-count .result < length (start .args .w .blocks) =
-        omega (arith, simp length-map at (start .good .0 .1 .1 .1 .1 .0 .1 .0 .1), start .pre, c .block-count .ensures .0) in
+    omega (arith, simp length-map at (start .good .0 .1 .1 .1 .1 .0 .1 .0 .1), start .pre, c .block-count .ensures .0) in
     simp (one-more (start .args .w .blockcount) (start .args .w .blocks) (c .block-count .result) (start .args .b) (c .block-count .ensures .0) fits)
 
 pub with-block-spec : {M : Type 1} → statement M

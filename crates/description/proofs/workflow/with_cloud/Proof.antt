@@ -25,7 +25,7 @@ unfolding describes
 returns c =
     let start = c .before in
     let fits : c .cloud-count .result < length (start .args .w .clouds) =
-        omega (arith, simp length-map at (start .good .0 .1 .1 .0 .1 .0 .1), start .pre, c .cloud-count .ensures .0) in
+    omega (arith, simp length-map at (start .good .0 .1 .1 .0 .1 .0 .1), start .pre, c .cloud-count .ensures .0) in
     simp (one-more (start .args .w .cloudcount) (start .args .w .clouds) (c .cloud-count .result) (start .args .c) (c .cloud-count .ensures .0) fits)
 
 pub with-cloud-spec : {M : Type 1} → statement M

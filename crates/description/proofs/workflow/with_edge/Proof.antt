@@ -25,7 +25,7 @@ unfolding describes
 returns c =
     let start = c .before in
     let fits : c .edge-count .result < length (start .args .w .edges) =
-        omega (arith, simp length-map at (start .good .0 .1 .1 .1 .1 .1 .1 .0 .1 .0 .1), start .pre, c .edge-count .ensures .0) in
+    omega (arith, simp length-map at (start .good .0 .1 .1 .1 .1 .1 .1 .0 .1 .0 .1), start .pre, c .edge-count .ensures .0) in
     simp (one-more (start .args .w .edgecount) (start .args .w .edges) (c .edge-count .result) (start .args .e) (c .edge-count .ensures .0) fits)
 
 pub with-edge-spec : {M : Type 1} → statement M

@@ -1,0 +1,44 @@
+-- The table of `specs/Interview.antt`: by computation from the bytes, and where there are many candidates by the law that counts them.
+use Prim.Native.Nat.{ℕ}
+use mathlib.Core.Path.{_≡_, refl, ap}
+use Rattle.description.specs.Format.{Description, decode}
+use Rattle.rules.specs.Inputs.{flat}
+use Rattle.rules.specs.Soundness.{covers, breaks2, breaks3, breaks4, mayStand, choicesOf, candidates, count, sound, read}
+use Rattle.rules.specs.Placements.{moves, exposes, breaks16, breaks17, badPosition, judge}
+use Rattle.rules.specs.Transfers.{transfers}
+use Rattle.rules.specs.Cost.{gigabytes, cost}
+use Rattle.rules.specs.Options.{option, sameOption}
+use Rattle.rules.specs.Calls.{readCall, judgeCall}
+use Rattle.rules.proofs.Candidates.{count-is-length}
+use Rattle.lister.specs.Rows.{securePlacements, census, stands, rows, draw}
+use Rattle.lister.specs.Calls.{censusCall, drawCall}
+use Rattle.lister.specs.Interview.{Interview, candidatesOf}
+use Rattle.sequences.specs.Results.{Result, ok, refused, andThen}
+
+-- the number of candidates by the law that counts them, so that no list of them is made
+counted : (r : Result Description) → candidatesOf r ≡ andThen r (λ d. ok (count d))
+counted (ok d) = ap {B = Result ℕ} ok (count-is-length d)
+counted (refused number place) = refl
+
+-- document 01's table: every case holds
+pub interview : Interview
+unfolding
+    decode
+    read sound breaks2 breaks3 breaks4 mayStand covers choicesOf count candidates
+    judge badPosition breaks16 breaks17 exposes moves
+    transfers cost gigabytes option sameOption
+    readCall judgeCall censusCall drawCall
+    securePlacements census stands rows draw
+interview = record {
+  case1 = refl;
+  case2 = refl;
+  case3 = (refl, refl, refl);
+  case4 = refl;
+  case5 = refl;
+  case6 = refl;
+  case7 = (refl, refl, λ cost placement. refl);
+  case8 = refl;
+  case9 = (refl, counted (read (flat 16 2)));
+  case10 = (refl, counted (read (flat 10 3)));
+  case11 = (refl, counted (decode (flat 11 3)));
+}
