@@ -7,7 +7,7 @@ use lib.Dec.{ltb}
 use Rattle.description.specs.Format.{Description}
 use Rattle.rules.specs.Soundness.{read}
 use Rattle.rules.specs.Placements.{judge}
-use Rattle.rules.specs.Transfers.{transfers, bytesOf}
+use Rattle.rules.specs.Transfers.{Transfer, transfers, bytesOf}
 use Rattle.sequences.specs.Results.{Result, ok, refused, andThen}
 
 -- the counts of clouds, blocks and edges
@@ -25,14 +25,15 @@ readCall s = andThen (read s) (λ d. ok (countsOf d))
 unfoldable pub judgeCall : List ℕ → List ℕ → Result (Unit {0})
 judgeCall s p = andThen (read s) (λ d. judge d p)
 
--- the bytes that a buffer of n bytes is to begin with; 16, with the bytes needed: it is too short
-abbrev pub fitted : ℕ → List ℕ → Result (List ℕ)
-fitted n bytes = cond (ltb n (length bytes)) (refused 16 (length bytes)) (ok bytes)
+-- a buffer of n bytes has room for the transfers' bytes; 16, with the bytes needed: it is too short
+abbrev pub fitted : ℕ → List Transfer → Result (List Transfer)
+fitted n ts = cond (ltb n (length (bytesOf ts))) (refused 16 (length (bytesOf ts))) (ok ts)
 
-unfoldable pub transfersCall : List ℕ → List ℕ → ℕ → Result (List ℕ)
-transfersCall s p n = andThen (read s) (λ d. andThen (judge d p) (λ secure. fitted n (bytesOf (transfers d p))))
+-- the transfers that are written to a buffer of n bytes
+unfoldable pub transfersCall : List ℕ → List ℕ → ℕ → Result (List Transfer)
+transfersCall s p n = andThen (read s) (λ d. andThen (judge d p) (λ secure. fitted n (transfers d p)))
 
--- what a buffer holds after the call: the bytes written and, beyond them, what stood there; after a refusal, what it held
-abbrev pub bufferAfter : Result (List ℕ) → List ℕ → List ℕ
-bufferAfter (ok bytes) buffer = bytes ++ drop (length bytes) buffer
+-- what a buffer holds after the call: the transfers' bytes and, beyond them, what stood there; after a refusal, what it held
+unfoldable pub bufferAfter : Result (List Transfer) → List ℕ → List ℕ
+bufferAfter (ok ts) buffer = bytesOf ts ++ drop (length (bytesOf ts)) buffer
 bufferAfter (refused number place) buffer = buffer

@@ -1,4 +1,5 @@
 pub mod Accepted
+pub mod Answers
 pub mod Calls
 pub mod Cost
 pub mod Inputs

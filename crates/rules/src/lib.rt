@@ -1,1 +1,55 @@
-// The security and cost rules, over a description and one placement.
+// The security and cost rules, over a description and one placement, and the three calls that need no list of placements.
+ghost use mathlib.Core.Path.{_≡_};
+ghost use mathlib.Core.List.{List};
+ghost use Prim.Native.Nat.{ℕ};
+ghost use lib.ListN.{length};
+ghost use Rattle.sequences.specs.Results.{ok, andThen};
+ghost use Rattle.rules.specs.Answers.{readAnswer, judgeAnswer, transfersAnswer};
+ghost use Rattle.rules.specs.Calls.{readCall, judgeCall, transfersCall, bufferAfter};
+
+pub mod acceptance;
+pub mod answers;
+pub mod cost;
+pub mod placements;
+pub mod soundness;
+pub mod transfers;
+
+use answers::Acceptance;
+use answers::Transferred;
+use answers::Verdict;
+use description::workflow::Outcome;
+use description::workflow::Refusal;
+use description::workflow::block_count;
+use description::workflow::cloud_count;
+use description::workflow::edge_count;
+
+// Read: the counts of clouds, blocks and edges of an accepted description, or its first refusal.
+pub fn read(description: &[u8]) -> Acceptance
+    ensures { λ r. ⌜ readAnswer r ≡ readCall (now (description .entry)) ⌝ }
+{
+    let a = acceptance::accept(description);
+    let outcome = a.outcome;
+    let w = a.workflow;
+    match outcome {
+        Outcome::Accepted => Acceptance::Accepted {
+            clouds: cloud_count(w),
+            blocks: block_count(w),
+            edges: edge_count(w),
+        },
+        Outcome::Refused(r) => Acceptance::Refused(r),
+    }
+}
+
+// Judge a placement: secure, or the number and place of what it breaks first.
+pub fn judge(description: &[u8], placement: [u8; 16]) -> Verdict
+    ensures { λ r. ⌜ judgeAnswer r ≡ judgeCall (now (description .entry)) placement ⌝ }
+{
+    let a = acceptance::accept(description);
+    let outcome = a.outcome;
+    let w = a.workflow;
+    match outcome {
+        Outcome::Accepted => placements::verdict(w, placement),
+        Outcome::Refused(r) => Verdict::Refused(r),
+    }
+}
+

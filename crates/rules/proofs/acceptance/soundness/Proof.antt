@@ -1,0 +1,97 @@
+-- Each return by what the searches before it found.
+use mathlib.Core.Path.{_≡_, refl, sym, ap, _∙_}
+use native.Mathlib.Omega.{arith}
+use Prim.Native.Nat.{_≤_, _<_, _-_}
+use borrow.Author.Tests.{eq-eqb, ne-eqb, lt-ltb, le-ltb, le-leb, lt-leb, not-true, not-false}
+use Rattle.rules.specs.Answers.{foundIn}
+use Rattle.description.specs.Meaning.{describes, outcomeOf}
+use Rattle.rules.specs.Soundness.{sound, count}
+use borrow.Author.Needs.{needs}
+use Rattle.rules.proofs.acceptance.soundness.Statement.{statement}
+use Rattle.rules.proofs.acceptance.soundness.Tie as tie
+
+first-breaking-rule2-requires : tie.Need-first-breaking-rule2-requires
+first-breaking-rule2-requires c κs = search needs
+
+enum-known-block : tie.Need-enum-known-block
+enum-known-block c = search needs
+
+refused-requires : tie.Need-refused-requires
+refused-requires c κs = search needs
+
+returns : tie.Need-returns
+unfolding sound
+returns c = ap (λ o. outcomeOf o (describes (c .before .before .before .before .before .args .w))) (c .refused .ensures) ∙ (simp (sym (c .before .before .before .before .first-breaking-rule2 .ensures) ∙ ap foundIn (c .before .before .block .given .1)))
+
+enum-told : tie.Need-enum-told
+enum-told c = search needs
+
+first-breaking-requires : tie.Need-first-breaking-requires
+first-breaking-requires c κs = search needs
+
+enum-known-read : tie.Need-enum-known-read
+enum-known-read c = search needs
+
+refused-requires-2 : tie.Need-refused-requires-2
+refused-requires-2 c κs = search needs
+
+returns-2 : tie.Need-returns-2
+unfolding sound
+returns-2 c = ap (λ o. outcomeOf o (describes (c .before .before .before .before .before .before .before .before .args .w))) (c .refused2 .ensures) ∙ (simp ((sym (c .before .before .before .before .before .before .before .first-breaking-rule2 .ensures) ∙ ap foundIn (c .before .before .before .before .before .enum-told .given .1)), (sym (c .before .before .before .before .first-breaking .ensures) ∙ ap foundIn (c .before .before .read .given .1))))
+
+enum-told-2 : tie.Need-enum-told-2
+enum-told-2 c = search needs
+
+first-breaking-requires-2 : tie.Need-first-breaking-requires-2
+first-breaking-requires-2 c κs = search needs
+
+enum-known-write : tie.Need-enum-known-write
+enum-known-write c = search needs
+
+refused-requires-3 : tie.Need-refused-requires-3
+refused-requires-3 c κs = search needs
+
+returns-3 : tie.Need-returns-3
+unfolding sound
+returns-3 c = ap (λ o. outcomeOf o (describes (c .before .before .before .before .before .before .before .before .before .before .before .args .w))) (c .refused3 .ensures) ∙ (simp ((sym (c .before .before .before .before .before .before .before .before .before .before .first-breaking-rule2 .ensures) ∙ ap foundIn (c .before .before .before .before .before .before .before .before .enum-told .given .1)), (sym (c .before .before .before .before .before .before .before .first-breaking .ensures) ∙ ap foundIn (c .before .before .before .before .before .enum-told2 .given .1)), (sym (c .before .before .before .before .first-breaking2 .ensures) ∙ ap foundIn (c .before .before .write .given .1))))
+
+enum-told-3 : tie.Need-enum-told-3
+enum-told-3 c = search needs
+
+candidate-count-requires : tie.Need-candidate-count-requires
+candidate-count-requires c κs = search needs
+
+refused-requires-4 : tie.Need-refused-requires-4
+refused-requires-4 c κs = search needs
+
+returns-4 : tie.Need-returns-4
+unfolding sound
+returns-4 c = ap (λ o. outcomeOf o (describes (c .before .before .before .before .before .before .before .before .before .before .before .before .args .w))) (c .refused4 .ensures) ∙ (simp ((sym (c .before .before .before .before .before .before .before .before .before .before .before .first-breaking-rule2 .ensures) ∙ ap foundIn (c .before .before .before .before .before .before .before .before .before .enum-told .given .1)), (sym (c .before .before .before .before .before .before .before .before .first-breaking .ensures) ∙ ap foundIn (c .before .before .before .before .before .before .enum-told2 .given .1)), (sym (c .before .before .before .before .before .first-breaking2 .ensures) ∙ ap foundIn (c .before .before .before .enum-told3 .given .1)), (let h : 65536 < count (describes (c .before .before .before .before .before .before .before .before .before .before .before .before .args .w)) = omega arith in lt-ltb _ _ h)))
+
+returns-5 : tie.Need-returns-5
+unfolding sound
+returns-5 c = simp ((sym (c .before .before .before .before .before .before .before .before .before .before .first-breaking-rule2 .ensures) ∙ ap foundIn (c .before .before .before .before .before .before .before .before .enum-told .given .1)), (sym (c .before .before .before .before .before .before .before .first-breaking .ensures) ∙ ap foundIn (c .before .before .before .before .before .enum-told2 .given .1)), (sym (c .before .before .before .before .first-breaking2 .ensures) ∙ ap foundIn (c .before .before .enum-told3 .given .1)), (let h : count (describes (c .before .before .before .before .before .before .before .before .before .before .before .args .w)) ≤ 65536 = omega arith in le-ltb _ _ h))
+
+pub soundness-spec : {M : Type 1} → statement M
+soundness-spec =
+    tie.close
+    (tie.spec
+    first-breaking-rule2-requires
+    enum-known-block
+    refused-requires
+    returns
+    enum-told
+    first-breaking-requires
+    enum-known-read
+    refused-requires-2
+    returns-2
+    enum-told-2
+    first-breaking-requires-2
+    enum-known-write
+    refused-requires-3
+    returns-3
+    enum-told-3
+    candidate-count-requires
+    refused-requires-4
+    returns-4
+    returns-5)

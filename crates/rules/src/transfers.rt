@@ -1,0 +1,1 @@
+// The transfers of a placement, as bytes.
