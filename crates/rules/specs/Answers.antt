@@ -15,6 +15,11 @@ use Rattle.rules.specs.declared.answers.Found.{Found}
 use Rattle.rules.specs.declared.answers.Found.the-variants.{At, Nothing}
 use Rattle.rules.specs.declared.answers.Rule.{Rule}
 use Rattle.rules.specs.declared.answers.Rule.the-variants.{Rule3, Rule4, Rule16, Rule17}
+use Rattle.rules.specs.declared.answers.Charge.{Charge}
+use Rattle.rules.specs.declared.answers.Charge.the-variants.{Storage, Cpu}
+use Rattle.description.specs.declared.workflow.Cloud.{Cloud}
+use Rattle.description.specs.declared.workflow.Kind.{Kind}
+use Rattle.rules.specs.Cost.{storageOf, cpuOf}
 use Rattle.rules.specs.Soundness.{breaks3, breaks4}
 use Rattle.rules.specs.Placements.{breaks16, breaks17}
 use Rattle.rules.specs.Calls.{Counts}
@@ -46,3 +51,8 @@ breaksRule Rule3 d p = breaks3 d
 breaksRule Rule4 d p = breaks4 d
 breaksRule Rule16 d p = breaks16 d p
 breaksRule Rule17 d p = breaks17 d p
+
+-- inside the crate: the two charges on a block, by name
+abbrev pub amountOf : Charge → Cloud → Kind → ℕ
+amountOf Storage = storageOf
+amountOf Cpu = cpuOf

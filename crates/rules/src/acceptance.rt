@@ -2,7 +2,6 @@
 ghost use mathlib.Core.Path.{_≡_};
 ghost use Rattle.description.specs.Meaning.{describes, decodingOf, outcomeOf};
 ghost use Rattle.rules.specs.Soundness.{sound, read};
-
 use crate::answers::Found;
 use crate::answers::Rule;
 use crate::placements::first_breaking;

@@ -33,3 +33,9 @@ pub enum Rule {
     Rule16,
     Rule17,
 }
+
+// What a block is charged for on its cloud.
+pub enum Charge {
+    Storage,
+    Cpu,
+}

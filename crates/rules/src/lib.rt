@@ -12,7 +12,7 @@ pub mod answers;
 pub mod cost;
 pub mod placements;
 pub mod soundness;
-pub mod transfers;
+pub mod transfer;
 
 use answers::Acceptance;
 use answers::Transferred;
@@ -53,3 +53,16 @@ pub fn judge(description: &[u8], placement: [u8; 16]) -> Verdict
     }
 }
 
+// The transfers of a secure placement, in edge order, four bytes each, at the front of the buffer.
+pub fn transfers(description: &[u8], placement: [u8; 16], buffer: &mut [u8]) -> Transferred
+    ensures { λ r. ⌜ transfersAnswer r ≡ andThen (transfersCall (now (description .entry)) placement (length (now (buffer .entry)))) (λ ts. ok (length ts)) ⌝ }
+    ensures { λ r. ⌜ now (buffer .exit) ≡ bufferAfter (transfersCall (now (description .entry)) placement (length (now (buffer .entry)))) (now (buffer .entry)) ⌝ }
+{
+    let a = acceptance::accept(description);
+    let outcome = a.outcome;
+    let w = a.workflow;
+    match outcome {
+        Outcome::Accepted => transfer::written_if_secure(w, placement, buffer),
+        Outcome::Refused(r) => Transferred::Refused(r),
+    }
+}

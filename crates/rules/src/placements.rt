@@ -7,7 +7,6 @@ ghost use Rattle.description.specs.Meaning.{describes};
 ghost use Rattle.rules.specs.Answers.{foundIn, breaksRule, judgeAnswer};
 ghost use Rattle.rules.specs.Soundness.{positions};
 ghost use Rattle.rules.specs.Placements.{moves, exposes, breaks16, breaks17, badPosition, judge};
-
 use crate::answers::Found;
 use crate::answers::Rule;
 use crate::answers::Verdict;

@@ -6,7 +6,6 @@ ghost use Rattle.sequences.specs.Lists.{first};
 ghost use Rattle.description.specs.Meaning.{describes};
 ghost use Rattle.rules.specs.Answers.{foundIn};
 ghost use Rattle.rules.specs.Soundness.{covers, clearanceOf, breaks2, breaks3, breaks4, pinAllows, mayStand, choicesOf, count};
-
 use crate::answers::Found;
 use description::decode::is_write;
 use description::decode::wide;

@@ -1,1 +1,0 @@
-// The transfers of a placement, as bytes.
