@@ -30,9 +30,12 @@ cpuOf c (Service clearance units) = c .cpu * units
 abbrev pub transferCost : Description → Transfer → ℕ
 transferCost d t = (cloud d (t .source) .outward + cloud d (t .destination) .inward) * chargedOf (block d (t .datum) .kind)
 
--- an amount for each block on its cloud, summed
+-- an amount for block b on its cloud, and for all blocks, summed
+abbrev pub ofBlock : (Cloud → Kind → ℕ) → Description → List ℕ → ℕ → ℕ
+ofBlock amount d p b = amount (cloud d (getD p b 0)) (block d b .kind)
+
 abbrev pub ofBlocks : (Cloud → Kind → ℕ) → Description → List ℕ → ℕ
-ofBlocks amount d p = sum (map (λ b. amount (cloud d (getD p b 0)) (block d b .kind)) (below (length (d .blocks))))
+ofBlocks amount d p = sum (map (ofBlock amount d p) (below (length (d .blocks))))
 
 unfoldable pub cost : Description → List ℕ → ℕ
 cost d p = ofBlocks storageOf d p + sum (map (transferCost d) (transfers d p)) + ofBlocks cpuOf d p

@@ -1,36 +1,36 @@
+-- A rate below 2^16 times units below 2^32.
+use mathlib.Core.Path.{_≡_, refl, sym, ap, _∙_}
+use native.Mathlib.Omega.{arith}
+use Prim.Native.Nat.{_≤_, _<_, _-_}
+use Prim.Native.Nat.{_*_}
+use native.Mathlib.Nat.{mul-le-mul}
 use borrow.Author.Needs.{needs}
 use Rattle.rules.proofs.cost.cpu_of.Statement.{statement}
 use Rattle.rules.proofs.cost.cpu_of.Tie as tie
-use Rattle.rules.proofs.cost.cpu_of.Reads as reads
-use Rattle.rules.proofs.cost.cpu_of.Lts as lts
 
--- src/cost.rt:74:14
 enum-told : tie.Need-enum-told
 enum-told c = search needs
 
--- src/cost.rt:77:13
 enum-known-k : tie.Need-enum-known-k
 enum-known-k c = search needs
 
--- src/cost.rt:78:15
 cast-result : tie.Need-cast-result
 cast-result c = search needs
 
--- src/cost.rt:78:32
 cast-result-2 : tie.Need-cast-result-2
 cast-result-2 c = search needs
 
--- src/cost.rt:78:14
-mul-result : tie.Need-mul-result
-mul-result c = ?
+product : (c : tie.After-struct-known) → c .before .before .before .before .args .c .cpu * c .before .before .k .given .0 .1 .0 ≤ 65535 * 4294967295
+product c = mul-le-mul {n₂ = 65535} {m₂ = 4294967295} (search needs) (search needs)
 
--- src/cost.rt:66:1
+mul-result : tie.Need-mul-result
+mul-result c = let h = product (c) in omega arith
+
 returns : tie.Need-returns
 returns c = search needs
 
--- src/cost.rt:66:1
 returns-2 : tie.Need-returns-2
-returns-2 c = ?
+returns-2 c = (simp (c .before .before .k .given .1), product (c))
 
 pub cpu-of-spec : {M : Type 1} → statement M
 cpu-of-spec =

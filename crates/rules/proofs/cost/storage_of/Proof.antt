@@ -1,43 +1,43 @@
+-- A rate and a longevity below 2^16, and at most 6,554 gigabytes.
+use mathlib.Core.Path.{_≡_, refl, sym, ap, _∙_}
+use native.Mathlib.Omega.{arith}
+use Prim.Native.Nat.{_≤_, _<_, _-_}
+use Prim.Native.Nat.{_*_}
+use native.Mathlib.Nat.{mul-le-mul}
 use borrow.Author.Needs.{needs}
 use Rattle.rules.proofs.cost.storage_of.Statement.{statement}
 use Rattle.rules.proofs.cost.storage_of.Tie as tie
-use Rattle.rules.proofs.cost.storage_of.Reads as reads
-use Rattle.rules.proofs.cost.storage_of.Lts as lts
-use Rattle.rules.proofs.cost.gigabytes.Reads as gigabytes-reads
 
--- src/cost.rt:58:23
 enum-known-k : tie.Need-enum-known-k
 enum-known-k c = search needs
 
--- src/cost.rt:58:45
 cast-result : tie.Need-cast-result
 cast-result c = search needs
 
--- src/cost.rt:58:65
 gigabytes-requires : tie.Need-gigabytes-requires
 gigabytes-requires c κs = search needs
 
--- src/cost.rt:58:44
-mul-result : tie.Need-mul-result
-mul-result c = ?
+rated : (c : tie.After-gigabytes) → c .before .before .before .before .before .args .c .storage * c .gigabytes .result ≤ 65535 * 6554
+rated c = mul-le-mul {n₂ = 65535} {m₂ = 6554} (search needs) (c .gigabytes .ensures .1)
 
--- src/cost.rt:58:84
+product : (c : tie.After-gigabytes) → c .before .before .before .before .before .args .c .storage * c .gigabytes .result * c .before .before .before .k .given .0 .1 .0 ≤ 65535 * 6554 * 65535
+product c = mul-le-mul {n₂ = 429516390} {m₂ = 65535} (rated c) (search needs)
+
+mul-result : tie.Need-mul-result
+mul-result c = let h = rated (c) in omega arith
+
 cast-result-2 : tie.Need-cast-result-2
 cast-result-2 c = search needs
 
--- src/cost.rt:58:44
 mul-result-2 : tie.Need-mul-result-2
-mul-result-2 c = ?
+mul-result-2 c = let h = product (c) in omega arith
 
--- src/cost.rt:62:14
 enum-told : tie.Need-enum-told
 enum-told c = search needs
 
--- src/cost.rt:53:1
 returns : tie.Need-returns
-returns c = ?
+returns c = (simp (c .before .before .before .k .given .1, c .gigabytes .ensures .0), (let h = product (c) in omega arith))
 
--- src/cost.rt:53:1
 returns-2 : tie.Need-returns-2
 returns-2 c = search needs
 

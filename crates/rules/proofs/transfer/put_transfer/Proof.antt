@@ -1,67 +1,61 @@
+-- Four stores, one behind the other, where the edge moves its datum; otherwise none.
+use mathlib.Core.Path.{_≡_, refl, sym, ap, _∙_}
+use native.Mathlib.Omega.{arith}
+use Prim.Native.Nat.{_≤_, _<_, _-_}
+use lib.ListN.{length, drop, getD}
+use borrow.Author.Tests.{eq-eqb, ne-eqb, lt-ltb, le-ltb, le-leb, lt-leb, not-true, not-false}
+use Prim.Native.Nat.{_+_}
+use lib.ListN.{length-set}
+use native.Mathlib.Numerals.{add-one, add-two, add-three}
 use borrow.Author.Needs.{needs}
 use Rattle.rules.proofs.transfer.put_transfer.Statement.{statement}
 use Rattle.rules.proofs.transfer.put_transfer.Tie as tie
-use Rattle.rules.proofs.transfer.put_transfer.Reads as reads
-use Rattle.rules.proofs.transfer.put_transfer.Lts as lts
-use Rattle.rules.proofs.placements.moves.Reads as moves-reads
-use Rattle.rules.proofs.transfer.destination_of.Reads as destination-of-reads
-use Rattle.rules.proofs.transfer.source_of.Reads as source-of-reads
 
--- src/transfer.rt:70:9
 moves-requires : tie.Need-moves-requires
 moves-requires c κs = search needs
 
--- src/transfer.rt:71:9
 returns : tie.Need-returns
-returns c = ?
+returns c = simp (sym (c .before .moves .ensures) ∙ not-true _ (c .if1 .taken)) (omega arith, refl)
 
--- src/transfer.rt:73:5
+-- an edge that moves its datum has room for four bytes
+room : (c : tie.Else1) → c .before .before .before .args .at + 4 ≤ length (c .before .before .before .args .buffer .now)
+room c = simp (sym (c .before .moves .ensures) ∙ not-false _ (c .if1 .left)) at (c .before .before .before .pre)
+
 slice-write-buffer : tie.Need-slice-write-buffer
-slice-write-buffer c = ?
+slice-write-buffer c = let h = room (c) in omega arith
 
--- src/transfer.rt:74:12
 add-buffer : tie.Need-add-buffer
 add-buffer c = search needs
 
--- src/transfer.rt:74:5
 slice-write-buffer-2 : tie.Need-slice-write-buffer-2
-slice-write-buffer-2 c = ?
+slice-write-buffer-2 c = let h = room (c) in simp length-set (omega arith)
 
--- src/transfer.rt:75:22
 source-of-requires : tie.Need-source-of-requires
 source-of-requires c κs = search needs
 
--- src/transfer.rt:75:12
 add-buffer-2 : tie.Need-add-buffer-2
 add-buffer-2 c = search needs
 
--- src/transfer.rt:75:5
 slice-write-buffer-3 : tie.Need-slice-write-buffer-3
-slice-write-buffer-3 c = ?
+slice-write-buffer-3 c = let h = room (c .before) in simp length-set (omega arith)
 
--- src/transfer.rt:76:22
 destination-of-requires : tie.Need-destination-of-requires
 destination-of-requires c κs = search needs
 
--- src/transfer.rt:76:12
 add-buffer-3 : tie.Need-add-buffer-3
 add-buffer-3 c = search needs
 
--- src/transfer.rt:76:5
 slice-write-buffer-4 : tie.Need-slice-write-buffer-4
-slice-write-buffer-4 c = ?
+slice-write-buffer-4 c = let h = room (c .before .before) in simp length-set (omega arith)
 
--- src/transfer.rt:77:5
 add-result : tie.Need-add-result
 add-result c = search needs
 
--- src/transfer.rt:65:1
 same-length : tie.Need-same-length
 same-length c = search needs
 
--- src/transfer.rt:65:1
 returns-2 : tie.Need-returns-2
-returns-2 c = ?
+returns-2 c = simp ((sym (c .before .before .before .moves .ensures) ∙ not-false _ (c .before .before .if1 .left)), c .before .source-of .ensures, c .destination-of .ensures, add-one, add-two, add-three) (refl, refl)
 
 pub put-transfer-spec : {M : Type 1} → statement M
 put-transfer-spec =
