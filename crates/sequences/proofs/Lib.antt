@@ -4,7 +4,9 @@ pub mod Counting
 pub mod First
 pub mod Loops
 pub mod Members
+pub mod Orders
 pub mod Positions
 pub mod Results
+pub mod Sorting
 pub mod Sums
 pub mod Tests
