@@ -1,6 +1,7 @@
 pub mod Ascending
 pub mod Choices
 pub mod Counting
+pub mod Draws
 pub mod First
 pub mod Loops
 pub mod Members
