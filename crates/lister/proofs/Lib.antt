@@ -1,1 +1,2 @@
 pub mod Interview
+pub mod RowOrder
