@@ -53,6 +53,11 @@ module _ {A : Type 0} where
   abbrev pub sort : (A → A → Bool) → List A → List A
   sort test xs = foldr (insert test) [] xs
 
+  -- the elements without those that are like a later one: of those alike, the last stays
+  abbrev pub distinctBy : (A → A → Bool) → List A → List A
+  distinctBy alike [] = []
+  distinctBy alike (x ∷ xs) = cond (any (alike x) xs) (distinctBy alike xs) (x ∷ distinctBy alike xs)
+
   -- each of the lists with each of the elements in front, the elements varying slowest
   abbrev pub prefixed : List (List A) → List A → List (List A)
   prefixed rest [] = []
