@@ -4,3 +4,4 @@ pub mod CostBound
 pub mod Deciding
 pub mod Judging
 pub mod Reached
+pub mod SameOption
