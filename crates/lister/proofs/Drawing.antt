@@ -55,7 +55,7 @@ module _ (d : Description) where
     λ (p, i, s, e). Memᴰ·cast (sym e) (Memᴰ·map (rowOf d) (keep-members (stands d) (securePlacements d) p .1 (i, s))),
   )
 
-  -- item 3, but for the number of rows
+  -- the answers of draws in a row are the rows and then finished; the rows rise, and are those of the placements that stand
   pub item-three : ItemThree d
   unfolding answers draw rows
   item-three = record {

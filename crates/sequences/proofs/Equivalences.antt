@@ -8,7 +8,7 @@ use Rattle.sequences.specs.Lists.{equalBy}
 use Rattle.sequences.specs.Orders.{Equivalence}
 use Rattle.sequences.proofs.Tests.{both-pass}
 
--- equality of numbers
+-- equality of numbers is one
 pub eqb-equivalence : Equivalence eqb
 eqb-equivalence = record {
   reflexive = λ x. eq-eqb x x refl;

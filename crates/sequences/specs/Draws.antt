@@ -16,7 +16,7 @@ module _ {A : Type 0} where
   abbrev pub better : (test : A → A → Bool) (later : A → Bool) → Option A → A → Option A
   better test later best x = cond (later x && beats test x best) (some x) best
 
-  -- the walk
+  -- the walk over the whole list
   abbrev pub bestOf : (test : A → A → Bool) (later : A → Bool) → List A → Option A
   bestOf test later xs = foldl (better test later) none xs
 
