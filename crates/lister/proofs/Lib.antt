@@ -1,1 +1,4 @@
+pub mod Census
+pub mod Drawing
 pub mod Interview
+pub mod RowOrder

@@ -1,3 +1,4 @@
 pub mod Calls
 pub mod Interview
+pub mod ItemThree
 pub mod Rows

@@ -1,7 +1,7 @@
 -- Census, rows and draw, of an accepted description.
 use Prim.Native.Nat.{ℕ}
-use mathlib.Core.Bool.{Bool, not, _&&_, _||_, cond}
-use mathlib.Core.List.{List, [], _∷_, map, foldr}
+use mathlib.Core.Bool.{Bool, not, _&&_, _||_}
+use mathlib.Core.List.{List, _∷_, map}
 use mathlib.Core.Option.{Option}
 use lib.ListN.{length}
 use Rattle.description.specs.Format.{Description}
@@ -11,15 +11,14 @@ use Rattle.rules.specs.Cost.{cost}
 use Rattle.rules.specs.Options.{sameOption}
 use Rattle.lister.specs.declared.Row.{Row}
 use Rattle.lister.specs.declared.Cursor.{Cursor}
-use Rattle.sequences.specs.Lists.{any, keep, find, before}
+use Rattle.sequences.specs.Lists.{any, keep, find, distinctBy, before, sort}
 
 unfoldable pub securePlacements : Description → List (List ℕ)
 securePlacements d = keep (secure d) (candidates d)
 
--- Census. How many different options there are: of equal ones, only the last placement is counted.
+-- Census. How many different options there are: of placements that are the same one, only the last is counted.
 abbrev pub distinct : Description → List (List ℕ) → List (List ℕ)
-distinct d [] = []
-distinct d (p ∷ ps) = cond (any (sameOption d p) ps) (distinct d ps) (p ∷ distinct d ps)
+distinct d = distinctBy (sameOption d)
 
 pub record Census : Type 0 where
   pub candidates : ℕ
@@ -48,13 +47,9 @@ rowOf d p = record { cost = cost d p; placement = p }
 unfoldable pub stands : Description → List ℕ → Bool
 stands d p = not (any (λ q. sameOption d q p && earlier (rowOf d q) (rowOf d p)) (securePlacements d))
 
-abbrev pub insert : Row → List Row → List Row
-insert r [] = r ∷ []
-insert r (s ∷ ss) = cond (earlier r s) (r ∷ s ∷ ss) (s ∷ insert r ss)
-
 -- one row for each option, in rising order
 unfoldable pub rows : Description → List Row
-rows d = foldr insert [] (map (rowOf d) (keep (stands d) (securePlacements d)))
+rows d = sort earlier (map (rowOf d) (keep (stands d) (securePlacements d)))
 
 -- Draw: the first row strictly later than the cursor; none: finished
 abbrev pub later : Cursor → Row → Bool

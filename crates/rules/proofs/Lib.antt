@@ -4,4 +4,5 @@ pub mod CostBound
 pub mod Deciding
 pub mod Judging
 pub mod Reached
+pub mod SameOption
 pub mod Transferring

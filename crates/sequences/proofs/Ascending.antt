@@ -4,7 +4,7 @@ use mathlib.Core.Path.{_≡_, refl, sym, _∙_}
 use mathlib.Core.Logic.{inl, inr}
 use mathlib.Core.Bool.{Bool, true, false, true≢false}
 use mathlib.Core.List.{List, [], _∷_, _++_, map}
-use mathlib.Core.List.{List·Memᴰ, List·Memᴰ·head, List·Memᴰ·tail, List·Memᴰ·append-cases, Memᴰ·of-map}
+use mathlib.Core.List.{List·Memᴰ, List·Memᴰ·head, List·Memᴰ·tail, List·Memᴰ·append-cases, Memᴰ·of-map, Memᴰ·cast}
 use lib.Dec.{ltb}
 use borrow.Author.Tests.{lt-ltb}
 use Rattle.sequences.specs.Ascending.{Ascending, Once}
@@ -41,6 +41,21 @@ map-ascends test test' f keeps [] p = tt
 map-ascends test test' f keeps (x ∷ xs) p = (
   λ y m. let (z, k, e) = Memᴰ·of-map f xs m in rw (← e) (keeps x z (p .0 z k)),
   map-ascends test test' f keeps xs (p .1),
+)
+
+-- what a test keeps of a list whose elements stand once
+pub keep-once : {A : Type 0} (kept : A → Bool) (xs : List A) → Once xs → Once (keep kept xs)
+keep-once kept [] o = tt
+keep-once kept (x ∷ xs) o = cond-ind Once (kept x) (x ∷ keep kept xs) (keep kept xs)
+    (λ _. (λ m. o .0 (keep-members kept xs x .0 m .0), keep-once kept xs (o .1)))
+    (λ _. keep-once kept xs (o .1))
+
+-- and what a map that keeps elements apart makes of one
+pub map-once : {A B : Type 0} (f : A → B) → ((x y : A) → f x ≡ f y → x ≡ y) → (xs : List A) → Once xs → Once (map f xs)
+map-once f apart [] o = tt
+map-once f apart (x ∷ xs) o = (
+  λ m. let (z, k, e) = Memᴰ·of-map f xs m in o .0 (Memᴰ·cast (apart x z (sym e)) k),
+  map-once f apart xs (o .1),
 )
 
 -- counting ascends

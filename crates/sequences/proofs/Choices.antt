@@ -4,16 +4,15 @@ use native.Mathlib.Nat.{suc-mul, zero-mul, add-comm, suc-inj, not-suc-le-zero, l
 use native.Mathlib.Omega.{arith}
 use mathlib.Core.Path.{_≡_, refl, sym, ap, _∙_}
 use mathlib.Core.Logic.{_↔_, inl, inr}
-use mathlib.Core.Bool.{true, false}
 use mathlib.Core.List.{List, [], _∷_, map}
 use mathlib.Core.List.{List·Memᴰ, List·Memᴰ·head, List·Memᴰ·tail, List·Memᴰ·not-nil, List·Memᴰ·eq-of-singleton}
 use mathlib.Core.List.{List·Memᴰ·append-cases, Memᴰ·append-left, Memᴰ·append-right, Memᴰ·map, Memᴰ·of-map, Memᴰ·cast}
 use lib.Dec.{ltb}
 use lib.ListN.{length, getD, length-append, length-map}
-use borrow.Author.Tests.{eq-eqb, le-ltb}
 use Rattle.sequences.specs.Ascending.{Ascending, Once}
 use Rattle.sequences.specs.Lists.{prefixed, sequences, product, before}
 use Rattle.sequences.proofs.Ascending.{append-ascends, map-ascends, ascending-once}
+use Rattle.sequences.proofs.Orders.{before-lower, before-same, before-irreflexive}
 
 module _ {A : Type 0} where
   length-prefixed : (rest : List (List A)) (c : List A) → length (prefixed rest c) ≡ length c * length rest
@@ -60,18 +59,6 @@ module _ {A : Type 0} where
     pub sequences-members : (cs : List (List A)) (p : List A)
         → List·Memᴰ p (sequences cs) ↔ ((length p ≡ length cs) × ((b : ℕ) → b < length cs → List·Memᴰ (getD p b default) (getD cs b [])))
     sequences-members cs p = (sequences-to cs p, λ h. sequences-from cs p (h .0) (h .1))
-
--- `before` by the first numbers: the lower one decides, and of equal ones the rest
-before-lower : (x y : ℕ) (xs ys : List ℕ) → ltb x y ≡ true → before (x ∷ xs) (y ∷ ys) ≡ true
-before-lower x y xs ys h = simp h
-
-before-same : (x : ℕ) (xs ys : List ℕ) → before (x ∷ xs) (x ∷ ys) ≡ before xs ys
-before-same x xs ys = simp (le-ltb x x (omega arith), eq-eqb x x refl)
-
--- no list is before itself
-pub before-irreflexive : (xs : List ℕ) → before xs xs ≡ false
-before-irreflexive [] = refl
-before-irreflexive (x ∷ xs) = before-same x xs xs ∙ before-irreflexive xs
 
 prefixed-ascends : (rest : List (List ℕ)) (c : List ℕ) → Ascending before rest → Ascending ltb c → Ascending before (prefixed rest c)
 prefixed-ascends rest [] r a = tt

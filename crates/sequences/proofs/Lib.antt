@@ -1,10 +1,17 @@
 pub mod Ascending
 pub mod Choices
 pub mod Counting
+pub mod Distinct
+pub mod Draws
+pub mod Equivalences
 pub mod First
 pub mod Loops
 pub mod Members
+pub mod Orders
+pub mod Parts
 pub mod Positions
+pub mod Representatives
 pub mod Results
+pub mod Sorting
 pub mod Sums
 pub mod Tests

@@ -1,16 +1,16 @@
--- The members of the lists that `keep`, `from` and `below` make, and elements by their positions.
+-- The members of the lists that `keep`, `from` and `below` make, the members that `any` finds, and elements by their positions.
 use Prim.Native.Nat.{ℕ, zero, suc, _+_, _≤_, _<_}
 use native.Mathlib.Nat.{not-suc-le-zero, le-of-suc-le-suc}
 use native.Mathlib.Decide.{ℕ-discrete}
 use native.Mathlib.Omega.{arith}
 use mathlib.Core.Path.{_≡_, refl, sym, _∙_}
 use mathlib.Core.Logic.{_↔_, inl, inr}
-use mathlib.Core.Bool.{Bool, true, true≢false}
+use mathlib.Core.Bool.{Bool, true, false, true≢false, false≢true}
 use mathlib.Core.List.{List, [], _∷_, map}
 use mathlib.Core.List.{List·Memᴰ, List·Memᴰ·head, List·Memᴰ·tail, List·Memᴰ·not-nil, List·Memᴰ·cases-cons}
 use lib.ListN.{length, getD}
-use Rattle.sequences.specs.Lists.{keep, from, below}
-use Rattle.sequences.proofs.Tests.{cond-ind}
+use Rattle.sequences.specs.Lists.{any, keep, from, below}
+use Rattle.sequences.proofs.Tests.{cond-ind, not-passed, not-failed, or-passes, or-fails}
 
 module _ {A : Type 0} (test : A → Bool) where
   keep-to : (xs : List A) (x : A) → List·Memᴰ x (keep test xs) → List·Memᴰ x xs × (test x ≡ true)
@@ -28,6 +28,25 @@ module _ {A : Type 0} (test : A → Bool) where
   -- kept are exactly the elements that pass
   pub keep-members : (xs : List A) (x : A) → List·Memᴰ x (keep test xs) ↔ (List·Memᴰ x xs × (test x ≡ true))
   keep-members xs x = (keep-to xs x, λ h. keep-from xs x (h .0) (h .1))
+
+  any-to : (xs : List A) → any test xs ≡ true → (x : A) × List·Memᴰ x xs × (test x ≡ true)
+  any-to [] e = absurd (false≢true e)
+  any-to (x ∷ xs) e = elim (or-passes (test x) (any test xs) e) [
+    | inl t ↦ (x, List·Memᴰ·head refl, t)
+    | inr t ↦ let (y, m, k) = any-to xs t in (y, List·Memᴰ·tail m, k)
+  ]
+
+  any-none : (xs : List A) (x : A) → List·Memᴰ x xs → any test xs ≡ false → test x ≡ false
+  any-none (y ∷ ys) x (List·Memᴰ·head e) f = rw e (or-fails (test y) (any test ys) f .0)
+  any-none (y ∷ ys) x (List·Memᴰ·tail m) f = any-none ys x m (or-fails (test y) (any test ys) f .1)
+
+  -- some element passes exactly where one can be named
+  pub any-members : (xs : List A) → (any test xs ≡ true) ↔ ((x : A) × List·Memᴰ x xs × (test x ≡ true))
+  any-members xs = (any-to xs, λ (x, m, t). not-failed (any test xs) (λ f. true≢false (sym t ∙ any-none xs x m f)))
+
+  -- none does exactly where every element fails
+  pub none-members : (xs : List A) → (any test xs ≡ false) ↔ ((x : A) → List·Memᴰ x xs → test x ≡ false)
+  none-members xs = (λ f x m. any-none xs x m f, λ h. not-passed (any test xs) (λ e. let (x, m, t) = any-to xs e in true≢false (sym t ∙ h x m)))
 
 from-to : (k n x : ℕ) → List·Memᴰ x (from k n) → (k ≤ x) × (x < k + n)
 from-to k zero x m = absurd (List·Memᴰ·not-nil m)

@@ -1,11 +1,11 @@
--- Tests in proofs: a test passes or fails; what holds of both branches holds of a choice; what `&&` that passed and `||` that failed say
--- of their parts.
+-- Tests in proofs: a test passes or fails; what holds of both branches holds of a choice; what `&&` and `||` that
+-- passed or failed say of their parts.
 use Prim.Native.Nat.{ℕ, zero, suc, _<_}
 use native.Mathlib.Nat.{le-of-suc-le-suc, not-suc-le-zero}
 use native.Mathlib.Omega.{arith}
 use native.Mathlib.Decide.{ℕ-discrete}
 use mathlib.Core.Path.{_≡_, refl, sym, _∙_}
-use mathlib.Core.Logic.{_↔_}
+use mathlib.Core.Logic.{_↔_, _⊎_, inl, inr}
 use mathlib.Core.Bool.{Bool, true, false, cond, _&&_, _||_, true≢false, false≢true}
 use mathlib.Core.Option.{Option, none, some}
 use mathlib.Core.List.{List, [], _∷_}
@@ -42,6 +42,11 @@ cond-none false a o e = (refl, e)
 pub or-fails : (a b : Bool) → a || b ≡ false → (a ≡ false) × (b ≡ false)
 or-fails true b e = absurd (true≢false e)
 or-fails false b e = (refl, e)
+
+-- an `or` that passed: one of its parts did
+pub or-passes : (a b : Bool) → a || b ≡ true → (a ≡ true) ⊎ (b ≡ true)
+or-passes true b e = inl refl
+or-passes false b e = inr e
 
 -- no element passes: none at any position does
 pub any-fails : {A : Type 0} (t : A → Bool) (d : A) (l : List A) → any t l ≡ false → (i : ℕ) → i < length l → t (getD l i d) ≡ false

@@ -1,3 +1,5 @@
 pub mod Ascending
+pub mod Draws
 pub mod Lists
+pub mod Orders
 pub mod Results

@@ -1,7 +1,7 @@
--- Words on lists that the definitions of the other crates use: tests, first positions, sums, products, choices, two orders.
+-- Words on lists that the definitions of the other crates use: tests, first positions, sums, products, choices, two orders, sorting.
 use Prim.Native.Nat.{ℕ, zero, suc, _+_, _*_}
 use mathlib.Core.Bool.{Bool, true, false, _&&_, _||_, cond}
-use mathlib.Core.List.{List, [], _∷_, _++_, map}
+use mathlib.Core.List.{List, [], _∷_, _++_, map, foldr}
 use mathlib.Core.Option.{Option, none, some}
 use lib.Dec.{ltb, eqb}
 
@@ -43,6 +43,20 @@ module _ {A : Type 0} where
   abbrev pub find : (A → Bool) → List A → Option A
   find t [] = none
   find t (x ∷ xs) = cond (t x) (some x) (find t xs)
+
+  -- x in front of the first element that the test puts it before, or at the end
+  abbrev pub insert : (A → A → Bool) → A → List A → List A
+  insert test x [] = x ∷ []
+  insert test x (y ∷ ys) = cond (test x y) (x ∷ y ∷ ys) (y ∷ insert test x ys)
+
+  -- the elements in rising order by the test
+  abbrev pub sort : (A → A → Bool) → List A → List A
+  sort test xs = foldr (insert test) [] xs
+
+  -- the elements without those that are like a later one: of those alike, the last stays
+  abbrev pub distinctBy : (A → A → Bool) → List A → List A
+  distinctBy alike [] = []
+  distinctBy alike (x ∷ xs) = cond (any (alike x) xs) (distinctBy alike xs) (x ∷ distinctBy alike xs)
 
   -- each of the lists with each of the elements in front, the elements varying slowest
   abbrev pub prefixed : List (List A) → List A → List (List A)

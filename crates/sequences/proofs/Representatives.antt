@@ -1,0 +1,40 @@
+-- Where elements have a strict order, the member of a list that stands for those like it is the one that none like it is before: exactly
+-- one does.
+use mathlib.Core.Path.{_≡_, refl, sym, _∙_}
+use mathlib.Core.Bool.{Bool, true, false, not, _&&_, true≢false}
+use mathlib.Core.List.{List, List·Memᴰ}
+use mathlib.Core.Option.{Option, none, some}
+use borrow.Author.Tests.{not-true}
+use Rattle.sequences.specs.Draws.{bestOf}
+use Rattle.sequences.specs.Lists.{any}
+use Rattle.sequences.specs.Orders.{StrictOrder, Least, Equivalence, Represented}
+use Rattle.sequences.proofs.Draws.{best-least}
+use Rattle.sequences.proofs.Members.{none-members}
+use Rattle.sequences.proofs.Tests.{both-pass, not-passed}
+
+module _ {A : Type 0} {test alike : A → A → Bool} (order : StrictOrder test) (laws : Equivalence alike) (xs : List A) where
+  -- no member like x is before it
+  abbrev stands : A → Bool
+  stands x = not (any (λ y. alike y x && test y x) xs)
+
+  stands-if : (x : A) → stands x ≡ true → (y : A) → List·Memᴰ y xs → alike y x ≡ true → test y x ≡ false
+  stands-if x s y m a = not-passed (test y x) (λ t.
+      true≢false (sym (both-pass (alike y x) (test y x) .1 (a, t)) ∙ none-members (λ z. alike z x && test z x) xs .0 (not-true _ s) y m))
+
+  stands-from : (x : A) → ((y : A) → List·Memᴰ y xs → alike y x ≡ true → test y x ≡ false) → stands x ≡ true
+  stands-from x h = rw (none-members (λ y. alike y x && test y x) xs .1 (λ y m. not-passed (alike y x && test y x) (λ b.
+      let (a, t) = both-pass (alike y x) (test y x) .0 b in true≢false (sym t ∙ h y m a)))) refl
+
+  -- each member is like exactly one that stands so
+  pub least-represent : Represented alike (λ x. not (any (λ y. alike y x && test y x) xs)) xs
+  least-represent = record {
+    exists = λ x m. go x m (bestOf test (alike x) xs) (best-least order (alike x) xs);
+    unique = λ x y m n s t a. order .total x y (stands-if y t x m a) (stands-if x s y n (laws .symmetric x y a));
+  }
+    where
+      go : (x : A) → List·Memᴰ x xs → (o : Option A) → Least test (λ z. List·Memᴰ z xs × (alike x z ≡ true)) o
+          → (y : A) × List·Memᴰ y xs × (stands y ≡ true) × (alike x y ≡ true)
+      go x m none h = absurd (h x (m, laws .reflexive x))
+      go x m (some y) h =
+          let (k, a) = h .0 in
+          (y, k, stands-from y (λ z n b. h .1 z (n, laws .transitive x y z a (laws .symmetric z y b))), a)

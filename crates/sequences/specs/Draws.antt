@@ -1,0 +1,42 @@
+-- Draws: the first element past a cursor, found by one walk over a list that is in no order; and draws one after the other, each from
+-- the cursor that the one before left.
+use Prim.Native.Nat.{ℕ, zero, suc}
+use mathlib.Core.Path.{_≡_}
+use mathlib.Core.Bool.{Bool, true, _&&_, cond}
+use mathlib.Core.List.{List, [], _∷_, foldl}
+use mathlib.Core.Option.{Option, none, some}
+
+module _ {A : Type 0} where
+  -- x is before the best so far, or there is none yet
+  abbrev pub beats : (A → A → Bool) → A → Option A → Bool
+  beats test x none = true
+  beats test x (some best) = test x best
+
+  -- the best so far with x looked at: x takes its place if it is past the cursor and beats it
+  abbrev pub better : (test : A → A → Bool) (later : A → Bool) → Option A → A → Option A
+  better test later best x = cond (later x && beats test x best) (some x) best
+
+  -- the walk over the whole list
+  abbrev pub bestOf : (test : A → A → Bool) (later : A → Bool) → List A → Option A
+  bestOf test later xs = foldl (better test later) none xs
+
+  -- the best so far with b looked at, which f makes into an element if it passes t
+  abbrev pub betterIf : {B : Type 0} (test : A → A → Bool) (later : A → Bool) (t : B → Bool) (f : B → A) → Option A → B → Option A
+  betterIf test later t f best b = cond (t b && later (f b) && beats test (f b) best) (some (f b)) best
+
+module _ {A C : Type 0} where
+  -- the cursor after an answer: past the element answered; where there was none, as it was
+  abbrev pub moved : (past : A → C) → C → Option A → C
+  moved past c none = c
+  moved past c (some x) = past x
+
+  -- the answers of n draws, the first from cursor c
+  abbrev pub chained : (draw : C → Option A) (past : A → C) → C → ℕ → List (Option A)
+  chained draw past c zero = []
+  chained draw past c (suc n) = draw c ∷ chained draw past (moved past c (draw c)) n
+
+-- Cursors into an order: what comes after an element past the cursor is past it too, and past the cursor of an element is what comes
+-- after that element.
+pub record Cursors {A C : Type 0} (test : A → A → Bool) (later : C → A → Bool) (past : A → C) : Type 0 where
+  pub upward : (c : C) (x y : A) → later c x ≡ true → test x y ≡ true → later c y ≡ true
+  pub after : (x y : A) → later (past x) y ≡ test x y
