@@ -1,0 +1,24 @@
+-- The first bytes of a list that has as many are as many.
+use lib.ListN.{length-take}
+use native.Mathlib.Omega.{arith}
+use borrow.Author.Needs.{needs}
+use Rattle.callcases.proofs.input.read_front.Statement.{statement}
+use Rattle.callcases.proofs.input.read_front.Tie as tie
+
+slice-relend-prefix-read-all : tie.Need-slice-relend-prefix-read-all
+slice-relend-prefix-read-all c = search needs
+
+slice-aggregate-read-all : tie.Need-slice-aggregate-read-all
+slice-aggregate-read-all c = simp length-take (omega arith)
+
+read-all-requires : tie.Need-read-all-requires
+read-all-requires c κs = search needs
+
+same-length : tie.Need-same-length
+same-length c = search needs
+
+returns : tie.Need-returns
+returns c = search needs
+
+pub read-front-spec : {M : Type 1} → statement M
+read-front-spec = tie.close (tie.spec slice-relend-prefix-read-all slice-aggregate-read-all read-all-requires same-length returns)

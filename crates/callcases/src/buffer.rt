@@ -1,0 +1,17 @@
+// The two large buffers: for the description that is read, and for the output that waits to be written.
+ghost use Prim.Native.Nat.{_≤_};
+ghost use lib.ListN.{length};
+
+// More bytes than the longest description has.
+pub const SIZE: usize = 65536;
+
+// More bytes than the longest line has: that of a lent buffer of 1,024 bytes.
+pub const LINE: usize = 4096;
+
+pub type Buffer = [u8; SIZE];
+
+pub fn front(space: &[u8], count: usize) -> &[u8]
+    requires { ⌜ count ≤ length (now space) ⌝ }
+{
+    &space[..count]
+}

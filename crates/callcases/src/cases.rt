@@ -1,0 +1,110 @@
+// The cases: the call that a letter stands for, with the operands that follow the description.
+ghost use Prim.Native.Nat.{_+_, _≤_};
+ghost use mathlib.Core.Path.{_≡_};
+ghost use lib.ListN.{length};
+ghost use Rattle.callcases.specs.Room.{size, line, Within};
+use crate::buffer::Buffer;
+use crate::input::be16;
+use crate::input::read_all;
+use crate::lines::put_acceptance;
+use crate::lines::put_transferred;
+use crate::lines::put_verdict;
+use crate::output::put;
+use crate::output::put_hex;
+
+// The offset behind a case's line in the output, or that it is no case.
+pub enum Reply {
+    Line(usize),
+    Bad,
+}
+
+// A letter has a function of its own, which reads the operands and puts the line.
+pub fn answer(letter: u8, description: &[u8], out: &mut Buffer, at: usize) -> Reply
+    requires { ⌜ at + line ≤ size ⌝ }
+    ensures { λ r. ⌜ Within r ⌝ }
+{
+    match letter {
+        b'R' => answer_read(description, out, at),
+        b'J' => answer_judge(description, out, at),
+        b'T' => answer_transfers(description, out, at),
+        _ => Reply::Bad,
+    }
+}
+
+fn answer_read(description: &[u8], out: &mut Buffer, at: usize) -> Reply
+    requires { ⌜ at + line ≤ size ⌝ }
+    ensures { λ r. ⌜ Within r ⌝ }
+{
+    let at = put_acceptance(out, at, rules::read(description));
+    Reply::Line(put(out, at, b"\n"))
+}
+
+fn answer_judge(description: &[u8], out: &mut Buffer, at: usize) -> Reply
+    requires { ⌜ at + line ≤ size ⌝ }
+    ensures { λ r. ⌜ Within r ⌝ }
+{
+    let mut placement = [0u8; 16];
+    if !read_all(&mut placement) {
+        return Reply::Bad;
+    }
+    let at = put_verdict(out, at, rules::judge(description, placement));
+    Reply::Line(put(out, at, b"\n"))
+}
+
+fn answer_transfers(description: &[u8], out: &mut Buffer, at: usize) -> Reply
+    requires { ⌜ at + line ≤ size ⌝ }
+    ensures { λ r. ⌜ Within r ⌝ }
+{
+    let mut placement = [0u8; 16];
+    if !read_all(&mut placement) {
+        return Reply::Bad;
+    }
+    let mut room = [0u8; 2];
+    if !read_all(&mut room) {
+        return Reply::Bad;
+    }
+    let count = be16(room[0], room[1]);
+    if count > 1024 {
+        return Reply::Bad;
+    }
+    Reply::Line(put_transfers(out, at, description, placement, count))
+}
+
+// A buffer to lend, full of a byte by which what the call leaves alone shows.
+fn untouched() -> [u8; 1024]
+    ensures { λ r. ⌜ 1024 ≡ length r ⌝ }
+{
+    [0xa5; 1024]
+}
+
+fn put_transfers(
+    out: &mut Buffer,
+    at: usize,
+    description: &[u8],
+    placement: [u8; 16],
+    count: usize,
+) -> usize
+    requires { ⌜ at + line ≤ size ⌝ }
+    requires { ⌜ count ≤ 1024 ⌝ }
+    ensures { λ r. ⌜ r ≤ size ⌝ }
+{
+    let mut lent = untouched();
+    put_lent(out, at, description, placement, &mut lent[..count])
+}
+
+// The whole line: what the call answers, then the lent buffer as the call left it.
+fn put_lent(
+    out: &mut Buffer,
+    at: usize,
+    description: &[u8],
+    placement: [u8; 16],
+    lent: &mut [u8],
+) -> usize
+    requires { ⌜ at + line ≤ size ⌝ }
+    requires { ⌜ length (now lent) ≤ 1024 ⌝ }
+    ensures { λ r. ⌜ r ≤ size ⌝ }
+{
+    let at = put_transferred(out, at, rules::transfers(description, placement, lent));
+    let at = put_hex(out, at, lent);
+    put(out, at, b"\n")
+}

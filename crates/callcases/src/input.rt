@@ -1,0 +1,25 @@
+// Standard input, by parts of a known length. A read that fails counts as the end of the input.
+ghost use Prim.Native.Nat.{_+_, _*_, _≤_};
+ghost use mathlib.Core.Path.{_≡_};
+ghost use lib.ListN.{length};
+use libc::STDIN_FILENO;
+
+// A number in two bytes, most significant first.
+pub fn be16(high: u8, low: u8) -> usize
+    ensures { λ r. ⌜ r ≡ high * 256 + low ⌝ }
+    ensures { λ r. ⌜ r ≤ 65535 ⌝ }
+{
+    high as usize * 256 + low as usize
+}
+
+// Fills the bytes, and answers whether the input had as many.
+pub fn read_all(bytes: &mut [u8]) -> bool {
+    let wanted = bytes.len();
+    io::read_full(STDIN_FILENO, bytes) == wanted
+}
+
+pub fn read_front(space: &mut [u8], count: usize) -> bool
+    requires { ⌜ count ≤ length (now space) ⌝ }
+{
+    read_all(&mut space[..count])
+}

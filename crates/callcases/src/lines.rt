@@ -1,0 +1,66 @@
+// The words of each answer, put in the output without the line's end.
+ghost use Prim.Native.Nat.{_+_, _≤_};
+ghost use Rattle.callcases.specs.Room.{size, words};
+use crate::buffer::Buffer;
+use crate::output::put;
+use crate::output::put_number;
+use description::workflow::Refusal;
+use rules::answers::Acceptance;
+use rules::answers::Transferred;
+use rules::answers::Verdict;
+
+pub fn put_acceptance(out: &mut Buffer, at: usize, a: Acceptance) -> usize
+    requires { ⌜ at + words ≤ size ⌝ }
+    ensures { λ r. ⌜ r ≤ at + words ⌝ }
+{
+    match a {
+        Acceptance::Accepted {
+            clouds,
+            blocks,
+            edges,
+        } => put_counts(out, at, clouds, blocks, edges),
+        Acceptance::Refused(r) => put_refusal(out, at, r),
+    }
+}
+
+pub fn put_verdict(out: &mut Buffer, at: usize, v: Verdict) -> usize
+    requires { ⌜ at + words ≤ size ⌝ }
+    ensures { λ r. ⌜ r ≤ at + words ⌝ }
+{
+    match v {
+        Verdict::Secure => put(out, at, b"secure"),
+        Verdict::Refused(r) => put_refusal(out, at, r),
+    }
+}
+
+pub fn put_transferred(out: &mut Buffer, at: usize, t: Transferred) -> usize
+    requires { ⌜ at + words ≤ size ⌝ }
+    ensures { λ r. ⌜ r ≤ at + words ⌝ }
+{
+    match t {
+        Transferred::Count(n) => {
+            let at = put(out, at, b"transfers");
+            put_number(out, at, n as u64)
+        }
+        Transferred::Refused(r) => put_refusal(out, at, r),
+    }
+}
+
+fn put_counts(out: &mut Buffer, at: usize, clouds: usize, blocks: usize, edges: usize) -> usize
+    requires { ⌜ at + words ≤ size ⌝ }
+    ensures { λ r. ⌜ r ≤ at + words ⌝ }
+{
+    let at = put(out, at, b"accepted");
+    let at = put_number(out, at, clouds as u64);
+    let at = put_number(out, at, blocks as u64);
+    put_number(out, at, edges as u64)
+}
+
+fn put_refusal(out: &mut Buffer, at: usize, r: Refusal) -> usize
+    requires { ⌜ at + words ≤ size ⌝ }
+    ensures { λ end. ⌜ end ≤ at + words ⌝ }
+{
+    let at = put(out, at, b"refused");
+    let at = put_number(out, at, r.number as u64);
+    put_number(out, at, r.place as u64)
+}

@@ -1,0 +1,99 @@
+// Answers the cases on standard input, each with one line on standard output.
+ghost use Prim.Native.Nat.{_+_, _≤_};
+ghost use Rattle.callcases.specs.Room.{size, line, Within, Roomy};
+
+mod buffer;
+mod cases;
+mod input;
+mod lines;
+mod output;
+
+use buffer::Buffer;
+use buffer::LINE;
+use buffer::SIZE;
+use buffer::front;
+use cases::Reply;
+use libc::STDIN_FILENO;
+
+// What a case leaves: the offset behind the output that waits to be written, or the end.
+enum Turn {
+    Next(usize),
+    End,
+}
+
+// Says that what was read is no case, and ends.
+fn bad_case(out: &mut Buffer, at: usize) -> Turn
+    requires { ⌜ at + line ≤ size ⌝ }
+    ensures { λ r. ⌜ Roomy r ⌝ }
+{
+    let at = output::put(out, at, b"bad case\n");
+    output::flush(out, at);
+    Turn::End
+}
+
+// Writes what waits where another line might not fit behind it. A write that fails is the end.
+fn make_room(out: &Buffer, at: usize) -> Turn
+    requires { ⌜ at ≤ size ⌝ }
+    ensures { λ r. ⌜ Roomy r ⌝ }
+{
+    if at + LINE <= SIZE {
+        return Turn::Next(at);
+    }
+    if output::flush(out, at) {
+        return Turn::Next(0);
+    }
+    Turn::End
+}
+
+fn after_reply(out: &mut Buffer, at: usize, reply: Reply) -> Turn
+    requires { ⌜ at + line ≤ size ⌝ }
+    requires { ⌜ Within reply ⌝ }
+    ensures { λ r. ⌜ Roomy r ⌝ }
+{
+    match reply {
+        Reply::Line(end) => make_room(out, end),
+        Reply::Bad => bad_case(out, at),
+    }
+}
+
+// Reads one case and answers it. The input may end only where a case would begin.
+fn next_case(space: &mut Buffer, out: &mut Buffer, at: usize) -> Turn
+    requires { ⌜ at + line ≤ size ⌝ }
+    ensures { λ r. ⌜ Roomy r ⌝ }
+{
+    let mut header = [0u8; 3];
+    let got = io::read_full(STDIN_FILENO, &mut header);
+    if got == 0 {
+        output::flush(out, at);
+        return Turn::End;
+    }
+    if got < 3 {
+        return bad_case(out, at);
+    }
+    let count = input::be16(header[1], header[2]);
+    if !input::read_front(space, count) {
+        return bad_case(out, at);
+    }
+    let reply = cases::answer(header[0], front(space, count), out, at);
+    after_reply(out, at, reply)
+}
+
+// A proved loop has to end, and nothing says that the input does. So the loop counts its turns down,
+// from a number that no input uses up.
+fn answer_all(space: &mut Buffer, out: &mut Buffer) {
+    let mut at = 0;
+    let mut turns = u64::MAX;
+    while turns > 0 {
+        let Turn::Next(end) = next_case(space, out, at) else {
+            return;
+        };
+        at = end;
+        turns -= 1;
+    }
+}
+
+fn main() {
+    let mut space = io::large_buffer();
+    let mut out = io::large_buffer();
+    answer_all(&mut space, &mut out);
+}
