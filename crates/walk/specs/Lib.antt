@@ -1,0 +1,4 @@
+pub mod Packing
+pub mod Tables
+pub mod Visiting
+pub mod Walking

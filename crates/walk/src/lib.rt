@@ -1,0 +1,4 @@
+// A walk over all placements of a table of blocks, each met exactly once, in lexicographic order. It knows blocks, clouds and edges as
+// numbers only, and what each adds to a placement's weight.
+
+pub mod visit;
