@@ -8,4 +8,5 @@ pub mod Placements
 pub mod Reached
 pub mod Soundness
 pub mod Statements
+pub mod Terms
 pub mod Transfers
