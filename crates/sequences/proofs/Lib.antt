@@ -1,7 +1,12 @@
+pub mod Agreeing
 pub mod Ascending
 pub mod Choices
 pub mod Counting
+pub mod Equality
 pub mod First
+pub mod Grouping
+pub mod Least
+pub mod Lexicographic
 pub mod Loops
 pub mod Members
 pub mod Positions
