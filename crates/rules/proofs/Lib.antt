@@ -3,4 +3,5 @@ pub mod Candidates
 pub mod CostBound
 pub mod Deciding
 pub mod Judging
+pub mod Options
 pub mod Reached
