@@ -4,5 +4,6 @@ pub mod CostBound
 pub mod Deciding
 pub mod Judging
 pub mod Locality
+pub mod Mixing
 pub mod Options
 pub mod Reached
