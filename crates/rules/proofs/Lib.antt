@@ -5,5 +5,6 @@ pub mod Deciding
 pub mod Judging
 pub mod Locality
 pub mod Mixing
+pub mod Moving
 pub mod Options
 pub mod Reached

@@ -19,7 +19,7 @@ use Rattle.rules.specs.Options.{sameOption}
 use Rattle.rules.specs.Representatives.{dataOf, partOf, SameServices, Mix, SecureCandidate}
 use Rattle.rules.proofs.Deciding.{may-stand}
 use Rattle.rules.proofs.Candidates.{candidates-placed}
-use Rattle.rules.proofs.Options.{same-parts, same-services}
+use Rattle.rules.proofs.Options.{service-named, same-parts, same-services}
 use Rattle.rules.proofs.Locality.{data-named, edge-service, edge-datum, exposes-alike, part-local}
 use Rattle.sequences.proofs.Tests.{both-pass, not-passed}
 use Rattle.sequences.proofs.Agreeing.{none-pass}
@@ -69,7 +69,7 @@ module _ (d : Description) (w : WellFormed d) where
 
   module _ (p q r : List ℕ) (mix : Mix p q r) where
     mix-services : SameServices d p q → SameServices d p r
-    mix-services same n s = elim (mix .either n (block-low n (ltb-true _ _ (both-pass _ _ .0 s .0)))) [
+    mix-services same n s = elim (mix .either n (block-low n (service-named d n s .0))) [
       | inl e ↦ sym e
       | inr e ↦ same n s ∙ sym e
     ]

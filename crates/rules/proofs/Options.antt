@@ -9,7 +9,7 @@ use lib.ListN.{length, getD}
 use borrow.Author.Tests.{ltb-true, not-true}
 use Rattle.description.specs.declared.workflow.Kind.{Kind}
 use Rattle.description.specs.declared.workflow.Kind.the-variants.{Datum, Service}
-use Rattle.description.specs.Format.{Description, block, isDatum}
+use Rattle.description.specs.Format.{Description, block, isDatum, namesService}
 use Rattle.rules.specs.Options.{part, option, sameOption}
 use Rattle.rules.specs.Representatives.{partOf, SameServices}
 use Rattle.sequences.specs.Lists.{below, equalBy, same}
@@ -44,6 +44,10 @@ module _ (d : Description) where
         λ h. map-agree (partOf d p) (partOf d q) blocks (λ n m. h n (below-members (length (d .blocks)) n .0 m)),
       )
 
+  -- a service is a declared block, and no datum
+  pub service-named : (n : ℕ) → namesService d n ≡ true → (n < length (d .blocks)) × (isDatum (block d n .kind) ≡ false)
+  service-named n s = let (declared, service) = both-pass _ _ .0 s in (ltb-true n (length (d .blocks)) declared, not-true _ service)
+
   -- a service's part is its cloud
   service-part : (k : Kind) (p q : List ℕ) (n : ℕ) → isDatum k ≡ false → part d p n k ≡ part d q n k → getD p n 0 ≡ getD q n 0
   service-part (Datum size longevity) p q n f e = absurd (true≢false f)
@@ -52,5 +56,5 @@ module _ (d : Description) where
   -- the same option: the same clouds for all services
   pub same-services : (p q : List ℕ) → sameOption d p q ≡ true → SameServices d p q
   same-services p q t n s =
-      let (declared, service) = both-pass _ _ .0 s in
-      service-part (block d n .kind) p q n (not-true _ service) (same-parts p q .0 t n (ltb-true n (length (d .blocks)) declared))
+      let (declared, service) = service-named n s in
+      service-part (block d n .kind) p q n service (same-parts p q .0 t n declared)
