@@ -8,3 +8,4 @@ pub mod Mixing
 pub mod Moving
 pub mod Options
 pub mod Reached
+pub mod Representatives

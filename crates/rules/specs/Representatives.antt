@@ -97,6 +97,17 @@ pub record SecureCandidate (d : Description) (p : List ℕ) : Type 0 where
   pub candidate : List·Memᴰ p (candidates d)
   pub safe : secure d p ≡ true
 
--- no secure candidate of the same option is earlier by cost, then bytes
+-- q comes before p by cost, then bytes
+abbrev pub Earlier : Description → (q p : List ℕ) → Type 0
+Earlier d q p = before (cost d q ∷ q) (cost d p ∷ p) ≡ true
+
+-- no secure candidate of the same option is earlier
 abbrev pub First : Description → List ℕ → Type 0
-First d p = (q : List ℕ) → SecureCandidate d q → sameOption d q p ≡ true → before (cost d q ∷ q) (cost d p ∷ p) ≡ true → ⊥
+First d p = (q : List ℕ) → SecureCandidate d q → sameOption d q p ≡ true → Earlier d q p → ⊥
+
+-- q stands for the option of p: it passes the test, and is p itself or earlier
+pub record StandsFor (d : Description) (q p : List ℕ) : Type 0 where
+  pub secure : SecureCandidate d q
+  pub stands : standsLocally d q ≡ true
+  pub same : sameOption d q p ≡ true
+  pub earlier : (q ≡ p) ⊎ Earlier d q p

@@ -87,3 +87,17 @@ pub set-before : (xs : List ℕ) (i k : ℕ) → i < length xs → k < getD xs i
 set-before [] i k l h = absurd (not-suc-le-zero l)
 set-before (x ∷ xs) zero k l h = before-lower k x xs xs h
 set-before (x ∷ xs) (suc i) k l h = before-rest x x (set xs i k) xs refl (set-before xs i k (le-of-suc-le-suc l) h)
+
+-- of pairs, the first number decides and then the second
+module _ (u k v l : ℕ) where
+  pub pair-cases : before (u ∷ k ∷ []) (v ∷ l ∷ []) ≡ true → (u < v) ⊎ ((u ≡ v) × (k < l))
+  pair-cases t = elim (before-cases u v (k ∷ []) (l ∷ []) t) [
+    | inl h ↦ inl h
+    | inr (e, rest) ↦ elim (before-cases k l [] [] rest) [ inl h ↦ inr (e, h) | inr n ↦ absurd (false≢true (n .1)) ]
+  ]
+
+  pub pair-not-before : before (u ∷ k ∷ []) (v ∷ l ∷ []) ≡ false → (v ≤ u) × (v ≡ u → l ≤ k)
+  pair-not-before f =
+      let high : ¬ (u < v) = λ h. true≢false (sym (before-lower u v (k ∷ []) (l ∷ []) h) ∙ f) in
+      let later : u ≡ v → ¬ (k < l) = λ e h. true≢false (sym (before-rest u v (k ∷ []) (l ∷ []) e (before-lower k l [] [] h)) ∙ f) in
+      (omega arith, λ e. omega (arith, later (sym e)))
