@@ -2,6 +2,7 @@ pub mod Accepted
 pub mod Candidates
 pub mod CostBound
 pub mod Deciding
+pub mod Ends
 pub mod Judging
 pub mod Locality
 pub mod Mixing
@@ -9,3 +10,4 @@ pub mod Moving
 pub mod Options
 pub mod Reached
 pub mod Representatives
+pub mod Storage

@@ -65,6 +65,13 @@ module _ (d : Description) (w : WellFormed d) where
   pub block-low : (n : ℕ) → n < length (d .blocks) → n < 16
   block-low n h = omega (arith, w .limits .blocks)
 
+  -- and a cloud on which a declared block may stand is one of the eight
+  pub cloud-low : (n k : ℕ) → n < length (d .blocks) → mayStand d n k ≡ true → k < 8
+  unfolding mayStand
+  cloud-low n k h may =
+      let declared = ltb-true k (length (d .clouds)) (both-pass _ _ .0 (both-pass _ _ .0 (rw (lt-ltb n (length (d .blocks)) h) at may) .0) .0) in
+      omega (arith, w .limits .clouds)
+
   -- ---- mixes
 
   module _ (p q r : List ℕ) (mix : Mix p q r) where

@@ -20,7 +20,7 @@ use Rattle.rules.specs.Representatives.{dataOf, share, partOf, betterOn,
 use Rattle.rules.proofs.Deciding.{may-stand}
 use Rattle.rules.proofs.Options.{same-parts, same-services, same-reflexive, same-symmetric, same-transitive}
 use Rattle.rules.proofs.Locality.{data-named, named-data, part-local, share-local, cost-shares, cpu-local}
-use Rattle.rules.proofs.Mixing.{candidates-stand, block-low}
+use Rattle.rules.proofs.Mixing.{candidates-stand, block-low, cloud-low}
 use Rattle.rules.proofs.Moving.{moved-own, moved-services, moved-secure, moved-same, moved-cost}
 use Rattle.sequences.specs.Lists.{any, keep, below, sum, equalBy, same, before}
 use Rattle.sequences.proofs.Tests.{both-pass, not-passed, not-failed}
@@ -71,11 +71,10 @@ module _ (d : Description) (w : WellFormed d) where
         let k = getD q n 0 in
         let low = data-named d n m .0 in
         let may = candidates-stand d w q .0 (cq .candidate) .1 n (block-low d w n low) in
-        let named = may-stand d q n .0 may .stands low .declared in
         let own = moved-own d w p cp n m k may in
         let from-q : SameServices d (set p n k) q = λ i s. moved-services d w p cp n m k may i s ∙ sym (services i s) in
         let part = part-local d w (set p n k) q from-q n own (block d n .kind) ∙ same-parts d q p .0 alike n low in
-        let worse = stands-if d p .0 passes n m k (omega (arith, w .limits .clouds)) in
+        let worse = stands-if d p .0 passes n m k (cloud-low d w n k low may) in
         rw (share-local d w (set p n k) q from-q n own) at
         (pair-not-before (share d (set p n k) n) k (share d p n) (getD p n 0)
         (not-passed _ (λ t. true≢false (sym (better-if d p n k .1 (may, part, t)) ∙ worse))))

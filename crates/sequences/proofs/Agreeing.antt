@@ -1,16 +1,21 @@
 -- Functions and tests on a list go by its elements: where two agree on each element they make the same list, and a test that no
 -- element passes fails on each.
-use Prim.Native.Nat.{ℕ, zero, suc, _<_}
-use native.Mathlib.Nat.{zero-lt-suc}
+use Prim.Native.Nat.{ℕ, zero, suc, _≤_, _<_, zero-le}
+use native.Mathlib.Nat.{zero-lt-suc, suc-inj, le-refl}
 use native.Mathlib.Omega.{arith}
 use mathlib.Core.Path.{_≡_, refl, sym, ap, ap₂, _∙_}
 use mathlib.Core.Logic.{_↔_, inl, inr}
-use mathlib.Core.Bool.{Bool, true, false, cond, _||_}
-use mathlib.Core.List.{List, [], _∷_, map, head-eq-of-cons-eq, tail-eq-of-cons-eq}
+use mathlib.Core.Bool.{Bool, true, false, cond, _||_, false≢true}
+use mathlib.Core.List.{List, [], _∷_, _++_, map, head-eq-of-cons-eq, tail-eq-of-cons-eq, concat-ne-nil}
 use mathlib.Core.List.{List·Memᴰ, List·Memᴰ·head, List·Memᴰ·tail, List·Memᴰ·not-nil, List·Memᴰ·cases-cons}
 use lib.ListN.{length, getD}
 use Rattle.sequences.specs.Lists.{any, keep}
-use Rattle.sequences.proofs.Tests.{or-fails}
+use Rattle.sequences.proofs.Tests.{cond-ind, not-passed, or-fails}
+
+-- two tests that pass together agree
+pub tests-agree : (a b : Bool) → (a ≡ true) ↔ (b ≡ true) → a ≡ b
+tests-agree true b h = sym (h .0 refl)
+tests-agree false b h = sym (not-passed b (λ t. false≢true (h .1 t)))
 
 -- an element stands at a position
 pub member-at : {A : Type 0} (default : A) {x : A} {xs : List A} → List·Memᴰ x xs → (i : ℕ) × (i < length xs) × (getD xs i default ≡ x)
@@ -44,3 +49,30 @@ none-pass t (x ∷ xs) = (
       elim (List·Memᴰ·cases-cons m) [ inl same ↦ rw same here | inr k ↦ none-pass t xs .0 later y k ],
   λ h. rw (h x (List·Memᴰ·head refl)) (none-pass t xs .1 (λ y m. h y (List·Memᴰ·tail m))),
 )
+
+-- then nothing is kept
+pub keep-none : {A : Type 0} (t : A → Bool) (xs : List A) → ((x : A) → List·Memᴰ x xs → t x ≡ false) → keep t xs ≡ []
+keep-none t [] h = refl
+keep-none t (x ∷ xs) h = rw (h x (List·Memᴰ·head refl)) (keep-none t xs (λ y m. h y (List·Memᴰ·tail m)))
+
+-- a test that passes at one position at most keeps at most one element
+pub keep-one : {A : Type 0} (t : A → Bool) (default : A) (xs : List A)
+    → ((i j : ℕ) → i < length xs → j < length xs → t (getD xs i default) ≡ true → t (getD xs j default) ≡ true → i ≡ j) → length (keep t xs) ≤ 1
+keep-one t default [] h = zero-le
+keep-one t default (x ∷ xs) h = cond-ind (λ r. length r ≤ 1) (t x) (x ∷ keep t xs) (keep t xs)
+    (λ e.
+    let none-later : keep t xs ≡ [] = keep-none t xs (λ y m. not-passed _ (λ u.
+    let (i, l, at) = member-at default m in
+    let zero-is-suc = h 0 (suc i) (zero-lt-suc _) (omega arith) e (rw at u) in
+    omega arith)) in
+    rw none-later (le-refl 1))
+    (λ _. keep-one t default xs (λ i j a b u v. suc-inj (h (suc i) (suc j) (omega arith) (omega arith) u v)))
+
+-- two lists that end alike are alike before their last elements
+pub snoc-same : {A : Type 0} (xs ys : List A) (x y : A) → xs ++ (x ∷ []) ≡ ys ++ (y ∷ []) → (xs ≡ ys) × (x ≡ y)
+snoc-same [] [] x y e = (refl, head-eq-of-cons-eq e)
+snoc-same [] (b ∷ ys) x y e = absurd (concat-ne-nil y ys (sym (tail-eq-of-cons-eq e)))
+snoc-same (a ∷ xs) [] x y e = absurd (concat-ne-nil x xs (tail-eq-of-cons-eq e))
+snoc-same (a ∷ xs) (b ∷ ys) x y e =
+    let rest = snoc-same xs ys x y (tail-eq-of-cons-eq e) in
+    (ap₂ _∷_ (head-eq-of-cons-eq e) (rest .0), rest .1)

@@ -4,7 +4,7 @@ use native.Mathlib.Nat.{le-refl}
 use native.Mathlib.Omega.{arith}
 use mathlib.Core.Path.{_≡_, refl, sym, ap, _∙_}
 use mathlib.Core.Logic.{inl, inr}
-use mathlib.Core.Bool.{Bool, true, false, cond}
+use mathlib.Core.Bool.{Bool, true, false, cond, not, _&&_}
 use mathlib.Core.List.{List, [], _∷_, map}
 use mathlib.Core.List.{List·Memᴰ, List·Memᴰ·head, List·Memᴰ·tail, List·Memᴰ·not-nil, List·Memᴰ·cases-cons, Memᴰ·cast}
 use lib.Dec.{eqb}
@@ -60,6 +60,24 @@ module _ {A : Type 0} where
       let rest = sum-kept test f xs (λ y m. h y (List·Memᴰ·tail m)) in
       cond-ind (λ (r : List A). f x + sum (map f xs) ≡ sum (map f r)) (test x) (x ∷ keep test xs) (keep test xs)
       (λ _. omega (arith, rest)) (λ e. omega (arith, rest, h x (List·Memᴰ·head refl) e))
+
+  -- a sum over what a test keeps, by another test
+  pub sum-split : (t u : A → Bool) (f : A → ℕ) (xs : List A)
+      → sum (map f (keep u xs)) ≡ sum (map f (keep (λ x. t x && u x) xs)) + sum (map f (keep (λ x. not (t x) && u x) xs))
+  sum-split t u f [] = refl
+  sum-split t u f (x ∷ xs) = step (t x) (u x) (sum-split t u f xs)
+    where
+      kept : (A → Bool) → List A
+      kept v = keep v xs
+
+      step : (a b : Bool) → sum (map f (kept u)) ≡ sum (map f (kept (λ x. t x && u x))) + sum (map f (kept (λ x. not (t x) && u x)))
+          → sum (map f (cond b (x ∷ kept u) (kept u)))
+          ≡ sum (map f (cond (a && b) (x ∷ kept (λ x. t x && u x)) (kept (λ x. t x && u x))))
+          + sum (map f (cond (not a && b) (x ∷ kept (λ x. not (t x) && u x)) (kept (λ x. not (t x) && u x))))
+      step true true h = omega (arith, h)
+      step true false h = h
+      step false true h = omega (arith, h)
+      step false false h = h
 
   sum-zero : (xs : List A) → sum (map (λ x. 0) xs) ≡ 0
   sum-zero [] = refl

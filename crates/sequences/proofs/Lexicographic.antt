@@ -1,5 +1,5 @@
 -- The order `before` of lists of numbers: a step of it, its laws, and lists compared place by place.
-use Prim.Native.Nat.{ℕ, zero, suc, _≤_, _<_}
+use Prim.Native.Nat.{ℕ, zero, suc, _+_, _≤_, _<_}
 use native.Mathlib.Nat.{zero-lt-suc, suc-inj, not-suc-le-zero, le-of-suc-le-suc}
 use native.Mathlib.Decide.{decLt, ℕ-discrete}
 use native.Mathlib.Omega.{arith}
@@ -9,7 +9,7 @@ use mathlib.Core.Bool.{Bool, true, false, _&&_, _||_, true≢false, false≢true
 use mathlib.Core.List.{List, [], _∷_}
 use lib.Dec.{ltb, eqb}
 use lib.ListN.{length, getD, set}
-use borrow.Author.Tests.{ltb-true, lt-ltb, le-ltb, eqb-true, eq-eqb}
+use borrow.Author.Tests.{ltb-true, lt-ltb, le-ltb, eqb-true, eq-eqb, ne-eqb}
 use Rattle.sequences.specs.Lists.{before}
 use Rattle.sequences.proofs.Tests.{both-pass, not-passed}
 
@@ -101,3 +101,19 @@ module _ (u k v l : ℕ) where
       let high : ¬ (u < v) = λ h. true≢false (sym (before-lower u v (k ∷ []) (l ∷ []) h) ∙ f) in
       let later : u ≡ v → ¬ (k < l) = λ e h. true≢false (sym (before-rest u v (k ∷ []) (l ∷ []) e (before-lower k l [] [] h)) ∙ f) in
       (omega arith, λ e. omega (arith, later (sym e)))
+
+-- the same added to both first numbers changes nothing
+pub before-plus : (x y n : ℕ) (xs ys : List ℕ) → before ((x + n) ∷ xs) ((y + n) ∷ ys) ≡ before (x ∷ xs) (y ∷ ys)
+before-plus x y n xs ys = rw (less, equal) refl
+  where
+    less : ltb (x + n) (y + n) ≡ ltb x y
+    less = elim (decLt x y) [
+      | yes h ↦ lt-ltb (x + n) (y + n) (omega arith) ∙ sym (lt-ltb x y h)
+      | no h ↦ le-ltb (x + n) (y + n) (omega arith) ∙ sym (le-ltb x y (omega arith))
+    ]
+
+    equal : eqb (x + n) (y + n) ≡ eqb x y
+    equal = elim (ℕ-discrete x y) [
+      | yes h ↦ eq-eqb (x + n) (y + n) (omega arith) ∙ sym (eq-eqb x y h)
+      | no h ↦ ne-eqb (x + n) (y + n) (omega arith) ∙ sym (ne-eqb x y h)
+    ]
