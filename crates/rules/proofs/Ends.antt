@@ -1,31 +1,30 @@
 -- The only data that can move within an option: those with a writer on one cloud and one reader on another, from the one to the other.
 -- Their transfers cost the same on both.
-use Prim.Native.Nat.{ℕ, suc, _+_, _*_, _≤_, _<_}
+use Prim.Native.Nat.{ℕ, _+_, _*_}
 use native.Mathlib.Decide.{ℕ-discrete}
 use native.Mathlib.Omega.{arith}
-use mathlib.Core.Path.{_≡_, refl, sym, ap, ap₂, _∙_}
-use mathlib.Core.Logic.{_↔_, _⊎_, inl, inr}
-use mathlib.Core.Bool.{Bool, true, false, not, _&&_, cond, true≢false, false≢true}
-use mathlib.Core.List.{List, [], _∷_, _++_, map, List·Memᴰ, List·Memᴰ·head, head-eq-of-cons-eq}
-use mathlib.Core.Option.{Option, none, some, Option·some-ne-none}
+use mathlib.Core.Path.{_≡_, refl, sym, ap, _∙_}
+use mathlib.Core.Logic.{_⊎_, inl, inr}
+use mathlib.Core.Bool.{Bool, true, false, not, _&&_, cond, false≢true}
+use mathlib.Core.List.{List, [], _∷_, _++_, map, List·Memᴰ, List·Memᴰ·head}
+use mathlib.Core.Option.{some, Option·some-ne-none}
 use lib.Dec.{eqb}
-use lib.ListN.{length, getD, set}
-use borrow.Author.Tests.{eqb-true, eqb-false, eq-eqb, ne-eqb, not-true}
+use lib.ListN.{length, getD}
+use borrow.Author.Tests.{eqb-true, eq-eqb, ne-eqb, not-true}
 use Rattle.description.specs.declared.workflow.Kind.{Kind}
 use Rattle.description.specs.declared.workflow.Kind.the-variants.{Datum, Service}
 use Rattle.description.specs.declared.workflow.Edge.{Edge}
-use Rattle.description.specs.Format.{Description, block, cloud, edge, noEdge, isDatum, isWrite}
+use Rattle.description.specs.Format.{Description, block, cloud, isDatum, isWrite}
 use Rattle.description.specs.Invariants.{WellFormed}
 use Rattle.rules.specs.Placements.{serviceCloud, datumCloud, moves}
-use Rattle.rules.specs.Transfers.{transferOf}
-use Rattle.rules.specs.Cost.{chargedOf, transferCost}
-use Rattle.rules.specs.Options.{writersOf, readersOf, stem, branch, joined, part}
-use Rattle.rules.specs.Representatives.{dataOf, edgesOf, edgeCost, storedOn, share, partOf, otherEnd, between, movesTo, SameServices}
-use Rattle.sequences.specs.Lists.{keep, sum}
-use Rattle.sequences.proofs.Tests.{cond-ind, both-pass}
+use Rattle.rules.specs.Cost.{chargedOf}
+use Rattle.rules.specs.Options.{writersOf, readersOf, branch, part}
+use Rattle.rules.specs.Representatives.{edgeCost, storedOn, share, otherEnd, SameServices}
+use Rattle.sequences.specs.Lists.{keep}
+use Rattle.sequences.proofs.Tests.{both-pass}
 use Rattle.sequences.proofs.Members.{keep-members}
 use Rattle.rules.proofs.Locality.{edge-service}
-use Rattle.sequences.proofs.Agreeing.{snoc-same, keep-one, keep-none}
+use Rattle.sequences.proofs.Equality.{snoc-same}
 use Rattle.sequences.proofs.Grouping.{sum-split}
 
 -- ---- one writer, on a, and one reader, on s, of what stands on o

@@ -1,27 +1,25 @@
 -- Security goes edge by edge, and candidates go position by position. So a block-by-block mix of two secure candidates of one option is
 -- a third; and a datum that alone moves to a cloud where it may stand leaves a secure candidate secure.
-use Prim.Native.Nat.{ℕ, _≤_, _<_}
-use native.Mathlib.Decide.{ℕ-discrete}
+use Prim.Native.Nat.{ℕ, _<_}
 use native.Mathlib.Omega.{arith}
 use mathlib.Core.Path.{_≡_, refl, sym, ap, _∙_}
-use mathlib.Core.Logic.{_↔_, Iff·trans, _⊎_, inl, inr}
-use mathlib.Core.Bool.{Bool, true, false, not, _&&_, cond, true≢false, false≢true}
+use mathlib.Core.Logic.{_↔_, Iff·trans, inl, inr}
+use mathlib.Core.Bool.{Bool, true, false, not, _&&_}
 use mathlib.Core.List.{List, List·Memᴰ}
-use lib.ListN.{length, getD, set, length-set}
-use lib.Seq.{getD-set-same, getD-set-other}
-use borrow.Author.Tests.{ltb-true, lt-ltb, eqb-true, eq-eqb, not-true, not-false}
+use lib.ListN.{length, getD}
+use borrow.Author.Tests.{ltb-true, lt-ltb, not-true}
 use Rattle.description.specs.declared.workflow.Edge.{Edge}
-use Rattle.description.specs.Format.{Description, block, isDatum, isWrite, namesService}
+use Rattle.description.specs.Format.{Description, block, isWrite}
 use Rattle.description.specs.Invariants.{WellFormed}
-use Rattle.rules.specs.Soundness.{covers, cloudLevel, blockLevel, mayStand, candidates}
-use Rattle.rules.specs.Placements.{serviceCloud, datumCloud, moves, exposes, breaks16, breaks17, broken16, broken17, secure}
+use Rattle.rules.specs.Soundness.{mayStand, candidates}
+use Rattle.rules.specs.Placements.{exposes, breaks16, breaks17, secure}
 use Rattle.rules.specs.Options.{sameOption}
-use Rattle.rules.specs.Representatives.{dataOf, partOf, SameServices, Mix, SecureCandidate}
+use Rattle.rules.specs.Representatives.{SameServices, Mix, SecureCandidate}
 use Rattle.rules.proofs.Deciding.{may-stand}
 use Rattle.rules.proofs.Candidates.{candidates-placed}
 use Rattle.rules.proofs.Options.{service-named, same-parts, same-services}
-use Rattle.rules.proofs.Locality.{data-named, edge-service, edge-datum, exposes-alike, part-local}
-use Rattle.sequences.proofs.Tests.{both-pass, not-passed}
+use Rattle.rules.proofs.Locality.{data-are, edge-service, edge-datum, exposes-alike, part-local}
+use Rattle.sequences.proofs.Tests.{both-pass}
 use Rattle.sequences.proofs.Agreeing.{none-pass}
 
 -- ---- security, edge by edge
@@ -94,7 +92,7 @@ module _ (d : Description) (w : WellFormed d) where
     mix-secure same sp sq = secure-edges d r .1 (λ e m.
         let sr = mix-services same in
         let here = sr (e .service) (edge-service d w e m) in
-        elim (mix .either (e .datum) (block-low (e .datum) (data-named d (e .datum) (edge-datum d w e m) .0))) [
+        elim (mix .either (e .datum) (block-low (e .datum) (data-are d (e .datum) .0 (edge-datum d w e m) .0))) [
           | inl at ↦ exposes-alike d r p e (sym here) at ∙ secure-edges d p .0 sp e m
           | inr at ↦ exposes-alike d r q e (sym here ∙ same (e .service) (edge-service d w e m)) at ∙ secure-edges d q .0 sq e m
         ])

@@ -1,10 +1,10 @@
 -- Being the same option is an equivalence: it is equality of options, and that is equality of the blocks' parts, one by one. The
 -- same option has every service on the same cloud.
 use Prim.Native.Nat.{ℕ, _<_}
-use mathlib.Core.Path.{_≡_, refl, sym, ap, _∙_}
+use mathlib.Core.Path.{_≡_, refl, sym, _∙_}
 use mathlib.Core.Logic.{_↔_, Iff·trans}
 use mathlib.Core.Bool.{true, false, true≢false}
-use mathlib.Core.List.{List, [], _∷_, head-eq-of-cons-eq}
+use mathlib.Core.List.{List, head-eq-of-cons-eq}
 use lib.ListN.{length, getD}
 use borrow.Author.Tests.{ltb-true, not-true}
 use Rattle.description.specs.declared.workflow.Kind.{Kind}

@@ -1,15 +1,15 @@
 -- The test that looks at one datum at a time says exactly which placement is the first of its option; and each option has one, and
 -- only one.
-use Prim.Native.Nat.{ℕ, _+_, _≤_, _<_}
+use Prim.Native.Nat.{ℕ, _≤_, _<_}
 use native.Mathlib.Nat.{le-of-eq}
 use native.Mathlib.Decide.{decLt}
 use native.Mathlib.Omega.{arith}
-use mathlib.Core.Path.{_≡_, refl, sym, ap, _∙_}
+use mathlib.Core.Path.{_≡_, sym, ap, _∙_}
 use mathlib.Core.Logic.{_↔_, _⊎_, inl, inr}
-use mathlib.Core.Bool.{Bool, true, false, not, _&&_, true≢false, false≢true, Bool-discrete}
+use mathlib.Core.Bool.{Bool, true, false, not, _&&_, true≢false, Bool-discrete}
 use mathlib.Core.List.{List, [], _∷_, map, List·Memᴰ, tail-eq-of-cons-eq}
 use lib.ListN.{length, getD, set}
-use borrow.Author.Tests.{lt-ltb, not-true, not-false}
+use borrow.Author.Tests.{lt-ltb, not-true}
 use Rattle.description.specs.Format.{Description, block, isDatum}
 use Rattle.description.specs.Invariants.{WellFormed}
 use Rattle.rules.specs.Soundness.{mayStand, candidates}
@@ -19,11 +19,11 @@ use Rattle.rules.specs.Options.{sameOption}
 use Rattle.rules.specs.Representatives.{dataOf, share, partOf, betterOn, standsLocally, SameServices, SecureCandidate, Earlier, First, StandsFor}
 use Rattle.rules.proofs.Deciding.{may-stand}
 use Rattle.rules.proofs.Options.{same-parts, same-services, same-reflexive, same-symmetric, same-transitive}
-use Rattle.rules.proofs.Locality.{data-named, named-data, part-local, share-local, cost-shares, cpu-local}
+use Rattle.rules.proofs.Locality.{data-are, part-local, share-local, cost-shares, cpu-local}
 use Rattle.rules.proofs.Mixing.{candidates-stand, block-low, cloud-low}
 use Rattle.rules.proofs.Moving.{moved-own, moved-services, moved-secure, moved-same, moved-cost}
-use Rattle.sequences.specs.Lists.{any, keep, below, sum, equalBy, same, before}
-use Rattle.sequences.proofs.Tests.{both-pass, not-passed, not-failed}
+use Rattle.sequences.specs.Lists.{any, keep, below, sum, same, before}
+use Rattle.sequences.proofs.Tests.{both-pass, not-passed}
 use Rattle.sequences.proofs.Members.{keep-members, below-members}
 use Rattle.sequences.proofs.Agreeing.{none-pass}
 use Rattle.sequences.proofs.Equality.{equalBy-decides, same-decides}
@@ -69,7 +69,7 @@ module _ (d : Description) (w : WellFormed d) where
     datum-not-lower : (n : ℕ) → List·Memᴰ n (dataOf d) → (share d p n ≤ share d q n) × (share d p n ≡ share d q n → getD p n 0 ≤ getD q n 0)
     datum-not-lower n m =
         let k = getD q n 0 in
-        let low = data-named d n m .0 in
+        let low = data-are d n .0 m .0 in
         let may = candidates-stand d w q .0 (cq .candidate) .1 n (block-low d w n low) in
         let own = moved-own d w p cp n m k may in
         let from-q : SameServices d (set p n k) q = λ i s. moved-services d w p cp n m k may i s ∙ sym (services i s) in
@@ -83,14 +83,14 @@ module _ (d : Description) (w : WellFormed d) where
     shares-not-lower n m = datum-not-lower n m .0
 
     costs : cost d q ≤ cost d p → sum (map (share d q) (dataOf d)) ≤ sum (map (share d p) (dataOf d))
-    costs h = omega (arith, cost-shares d p w, cost-shares d q w, cpu-local d q p services)
+    costs h = omega (arith, cost-shares d w p, cost-shares d w q, cpu-local d q p services)
 
     -- at equal cost no position is higher than in q
     not-higher : cost d q ≤ cost d p → (n : ℕ) → n < 16 → getD p n 0 ≤ getD q n 0
     not-higher h n l = elim (decLt n (length (d .blocks))) [
       | yes low ↦ elim (Bool-discrete (isDatum (block d n .kind)) true) [
           | yes t ↦
-              let m = named-data d n low t in
+              let m = data-are d n .1 (low, t) in
               datum-not-lower n m .1 (sum-each (share d p) (share d q) (dataOf d) shares-not-lower (costs h) n m)
           | no f ↦ le-of-eq (sym (services n (both-pass _ _ .1 (lt-ltb _ _ low, ap not (not-passed _ f)))))
         ]
@@ -102,7 +102,7 @@ module _ (d : Description) (w : WellFormed d) where
     passes-first : Earlier d q p → ⊥
     passes-first t = elim (before-cases (cost d q) (cost d p) q p t) [
       | inl lower ↦ omega (
-          arith, cost-shares d p w, cost-shares d q w, cpu-local d q p services, sum-below (share d p) (share d q) (dataOf d) shares-not-lower,
+          arith, cost-shares d w p, cost-shares d w q, cpu-local d q p services, sum-below (share d p) (share d q) (dataOf d) shares-not-lower,
         )
       | inr (equal, rest) ↦
           let sizes = candidates-stand d w p .0 (cp .candidate) .0 in
@@ -117,7 +117,7 @@ module _ (d : Description) (w : WellFormed d) where
       let q = set p n k in
       let change = moved-cost d w p cp n m k may in
       let size = candidates-stand d w p .0 (cp .candidate) .0 in
-      let low = block-low d w n (data-named d n m .0) in
+      let low = block-low d w n (data-are d n .0 m .0) in
       first q (moved-secure d w p cp n m k may) (moved-same d w p cp n m k may part)
       (elim (pair-cases (share d q n) k (share d p n) (getD p n 0) lower) [
         | inl less ↦ before-lower (cost d q) (cost d p) q p (omega arith)

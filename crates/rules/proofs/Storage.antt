@@ -1,12 +1,11 @@
 -- The test by storage is the test by shares: a datum that can move within its option moves between its two ends, where only its
 -- storage differs.
-use Prim.Native.Nat.{ℕ, _+_, _≤_, _<_}
-use native.Mathlib.Decide.{ℕ-discrete}
+use Prim.Native.Nat.{ℕ, _≤_, _<_}
 use native.Mathlib.Omega.{arith}
 use mathlib.Core.Path.{_≡_, refl, sym, ap, _∙_}
 use mathlib.Core.Logic.{_↔_}
-use mathlib.Core.Bool.{Bool, true, false, not, _&&_, true≢false, false≢true, Bool-discrete}
-use mathlib.Core.List.{List, [], _∷_, _++_, map, List·Memᴰ, head-eq-of-cons-eq}
+use mathlib.Core.Bool.{true, false, not, _&&_, true≢false, false≢true}
+use mathlib.Core.List.{List, [], _∷_, map, List·Memᴰ, head-eq-of-cons-eq}
 use mathlib.Core.Option.{Option, none, some, Option·some-ne-none}
 use lib.Dec.{eqb}
 use lib.ListN.{length, getD, set}
@@ -17,20 +16,19 @@ use Rattle.description.specs.declared.workflow.Kind.the-variants.{Datum, Servic
 use Rattle.description.specs.declared.workflow.Edge.{Edge}
 use Rattle.description.specs.Format.{Description, block, noEdge, isDatum, isWrite}
 use Rattle.description.specs.Invariants.{WellFormed}
-use Rattle.rules.specs.Soundness.{mayStand}
 use Rattle.rules.specs.Placements.{serviceCloud, moves}
 use Rattle.rules.specs.Options.{writersOf, readersOf, stem, branch, joined, part}
 use Rattle.rules.specs.Representatives.{dataOf, storedOn, share, partOf, betterOn, standsLocally, otherEnd, between, movesTo, cheaperOn, standsByStorage, SameServices, SecureCandidate}
-use Rattle.rules.proofs.Deciding.{may-stand}
-use Rattle.rules.proofs.Locality.{data-named, named-data, edge-datum}
+use Rattle.rules.proofs.Locality.{data-are, edge-datum}
 use Rattle.rules.proofs.Mixing.{cloud-low}
 use Rattle.rules.proofs.Moving.{moved-own, moved-services}
 use Rattle.rules.proofs.Representatives.{better-if, stands-if}
-use Rattle.rules.proofs.Ends.{path, carry, carried, path-ends, end-paths, end-carried, one-part, one-share}
-use Rattle.sequences.specs.Lists.{keep, below, any, before}
+use Rattle.rules.proofs.Ends.{carry, carried, path-ends, end-paths, end-carried, one-part, one-share}
+use Rattle.sequences.specs.Lists.{keep, below, before}
 use Rattle.sequences.proofs.Tests.{both-pass, not-passed, not-failed}
 use Rattle.sequences.proofs.Members.{below-members}
-use Rattle.sequences.proofs.Agreeing.{tests-agree, none-pass, keep-none, keep-one, snoc-same}
+use Rattle.sequences.proofs.Agreeing.{tests-agree, none-pass, keep-none, keep-one}
+use Rattle.sequences.proofs.Equality.{snoc-same}
 use Rattle.sequences.proofs.Choices.{before-irreflexive}
 use Rattle.sequences.proofs.Lexicographic.{before-plus}
 
@@ -75,13 +73,13 @@ module _ (d : Description) (w : WellFormed d) where
   service-still p n f =
       let unwritten : writersOf d n ≡ [] = keep-none (λ e. isWrite (e .way) && eqb (e .datum) n) (d .edges) (λ e m. not-passed _ (λ t.
       let here = eqb-true (e .datum) n (both-pass (isWrite (e .way)) (eqb (e .datum) n) .0 t .1) in
-      true≢false (sym (data-named d (e .datum) (edge-datum d w e m) .1) ∙ (rw here f)))) in
+      true≢false (sym (data-are d (e .datum) .0 (edge-datum d w e m) .1) ∙ (rw here f)))) in
       rw unwritten refl
 
   -- n in two placements that have the services on the same clouds
   module _ (p q : List ℕ) (services : SameServices d q p) (n : ℕ) (datum : List·Memᴰ n (dataOf d)) where
     is-datum : isDatum (block d n .kind) ≡ true
-    is-datum = data-named d n datum .1
+    is-datum = data-are d n .0 datum .1
 
     ours : SameServices d p p
     ours m s = refl
@@ -179,7 +177,7 @@ module _ (d : Description) (w : WellFormed d) where
 
     -- a block that moves is a datum
     moves-datum : (n k : ℕ) → n < length (d .blocks) → movesTo d p n ≡ some k → List·Memᴰ n (dataOf d)
-    moves-datum n k h e = named-data d n h (not-failed _ (λ f. Option·some-ne-none k (sym e ∙ service-still p n f)))
+    moves-datum n k h e = data-are d n .1 (h, not-failed _ (λ f. Option·some-ne-none k (sym e ∙ service-still p n f)))
 
     local-storage : standsLocally d p ≡ true → (n : ℕ) → n < length (d .blocks) → cheaperOn d p n (movesTo d p n) ≡ false
     local-storage s n h = go (movesTo d p n) refl
@@ -193,6 +191,6 @@ module _ (d : Description) (w : WellFormed d) where
     -- The test by storage passes exactly where the test by shares does.
     pub storage-is-local : standsByStorage d p ≡ standsLocally d p
     storage-is-local = tests-agree (standsByStorage d p) (standsLocally d p) (
-      λ s. stands-if d p .1 (λ n m k _. not-passed _ (λ t. true≢false (sym (cheaper n m k t) ∙ storage-if .0 s n (data-named d n m .0)))),
+      λ s. stands-if d p .1 (λ n m k _. not-passed _ (λ t. true≢false (sym (cheaper n m k t) ∙ storage-if .0 s n (data-are d n .0 m .0)))),
       λ s. storage-if .1 (local-storage s),
     )

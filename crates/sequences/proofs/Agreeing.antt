@@ -1,12 +1,12 @@
--- Functions and tests on a list go by its elements: where two agree on each element they make the same list, and a test that no
--- element passes fails on each.
-use Prim.Native.Nat.{ℕ, zero, suc, _≤_, _<_, zero-le}
+-- Functions and tests on a list go by its elements: two that agree on each make the same list; a test that no element passes fails on
+-- each and keeps nothing; one that passes at one position at most keeps at most one element.
+use Prim.Native.Nat.{ℕ, suc, _≤_, _<_, zero-le}
 use native.Mathlib.Nat.{zero-lt-suc, suc-inj, le-refl}
 use native.Mathlib.Omega.{arith}
-use mathlib.Core.Path.{_≡_, refl, sym, ap, ap₂, _∙_}
+use mathlib.Core.Path.{_≡_, refl, sym, ap₂}
 use mathlib.Core.Logic.{_↔_, inl, inr}
-use mathlib.Core.Bool.{Bool, true, false, cond, _||_, false≢true}
-use mathlib.Core.List.{List, [], _∷_, _++_, map, head-eq-of-cons-eq, tail-eq-of-cons-eq, concat-ne-nil}
+use mathlib.Core.Bool.{Bool, true, false, false≢true}
+use mathlib.Core.List.{List, [], _∷_, map, head-eq-of-cons-eq, tail-eq-of-cons-eq}
 use mathlib.Core.List.{List·Memᴰ, List·Memᴰ·head, List·Memᴰ·tail, List·Memᴰ·not-nil, List·Memᴰ·cases-cons}
 use lib.ListN.{length, getD}
 use Rattle.sequences.specs.Lists.{any, keep}
@@ -67,12 +67,3 @@ keep-one t default (x ∷ xs) h = cond-ind (λ r. length r ≤ 1) (t x) (x ∷ k
     omega arith)) in
     rw none-later (le-refl 1))
     (λ _. keep-one t default xs (λ i j a b u v. suc-inj (h (suc i) (suc j) (omega arith) (omega arith) u v)))
-
--- two lists that end alike are alike before their last elements
-pub snoc-same : {A : Type 0} (xs ys : List A) (x y : A) → xs ++ (x ∷ []) ≡ ys ++ (y ∷ []) → (xs ≡ ys) × (x ≡ y)
-snoc-same [] [] x y e = (refl, head-eq-of-cons-eq e)
-snoc-same [] (b ∷ ys) x y e = absurd (concat-ne-nil y ys (sym (tail-eq-of-cons-eq e)))
-snoc-same (a ∷ xs) [] x y e = absurd (concat-ne-nil x xs (tail-eq-of-cons-eq e))
-snoc-same (a ∷ xs) (b ∷ ys) x y e =
-    let rest = snoc-same xs ys x y (tail-eq-of-cons-eq e) in
-    (ap₂ _∷_ (head-eq-of-cons-eq e) (rest .0), rest .1)

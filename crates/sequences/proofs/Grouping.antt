@@ -1,5 +1,5 @@
--- Sums term by term: compared, with one term changed, of the elements that a test keeps, and regrouped by a key.
-use Prim.Native.Nat.{ℕ, suc, _+_, _≤_}
+-- Sums term by term: compared, with one term changed, of what a test keeps, split by a test, and regrouped by a key.
+use Prim.Native.Nat.{ℕ, _+_, _≤_}
 use native.Mathlib.Nat.{le-refl}
 use native.Mathlib.Omega.{arith}
 use mathlib.Core.Path.{_≡_, refl, sym, ap, _∙_}
@@ -61,7 +61,7 @@ module _ {A : Type 0} where
       cond-ind (λ (r : List A). f x + sum (map f xs) ≡ sum (map f r)) (test x) (x ∷ keep test xs) (keep test xs)
       (λ _. omega (arith, rest)) (λ e. omega (arith, rest, h x (List·Memᴰ·head refl) e))
 
-  -- a sum over what a test keeps, by another test
+  -- a sum over what u keeps, split by t
   pub sum-split : (t u : A → Bool) (f : A → ℕ) (xs : List A)
       → sum (map f (keep u xs)) ≡ sum (map f (keep (λ x. t x && u x) xs)) + sum (map f (keep (λ x. not (t x) && u x) xs))
   sum-split t u f [] = refl

@@ -4,7 +4,7 @@ use native.Mathlib.Nat.{zero-lt-suc, suc-inj, not-suc-le-zero, le-of-suc-le-suc}
 use native.Mathlib.Decide.{decLt, ℕ-discrete}
 use native.Mathlib.Omega.{arith}
 use mathlib.Core.Path.{_≡_, refl, sym, ap₂, _∙_}
-use mathlib.Core.Logic.{_↔_, _⊎_, inl, inr}
+use mathlib.Core.Logic.{_⊎_, inl, inr}
 use mathlib.Core.Bool.{Bool, true, false, _&&_, _||_, true≢false, false≢true}
 use mathlib.Core.List.{List, [], _∷_}
 use lib.Dec.{ltb, eqb}
@@ -16,7 +16,7 @@ use Rattle.sequences.proofs.Tests.{both-pass, not-passed}
 -- ---- one step
 
 -- an `or` that passed: one of its parts did
-pub or-passes : (a b : Bool) → (a || b ≡ true) → (a ≡ true) ⊎ (b ≡ true)
+or-passes : (a b : Bool) → (a || b ≡ true) → (a ≡ true) ⊎ (b ≡ true)
 or-passes true b e = inl refl
 or-passes false b e = inr e
 
@@ -28,14 +28,17 @@ module _ (x y : ℕ) (xs ys : List ℕ) where
     | inr r ↦ let (e, later) = both-pass (eqb x y) (before xs ys) .0 r in inr (eqb-true x y e, later)
   ]
 
+  -- the lower first number is before
   pub before-lower : x < y → before (x ∷ xs) (y ∷ ys) ≡ true
   before-lower l = rw (lt-ltb x y l) refl
 
+  -- of equal ones, what has the earlier rest
   pub before-rest : x ≡ y → before xs ys ≡ true → before (x ∷ xs) (y ∷ ys) ≡ true
   before-rest e t = rw (le-ltb x y (omega arith), eq-eqb x y e) t
 
 -- ---- laws
 
+-- what is before a list that is before a third is before that
 pub before-transitive : (xs ys zs : List ℕ) → before xs ys ≡ true → before ys zs ≡ true → before xs zs ≡ true
 before-transitive [] [] zs s t = absurd (false≢true s)
 before-transitive [] (y ∷ ys) [] s t = t
@@ -88,7 +91,9 @@ set-before [] i k l h = absurd (not-suc-le-zero l)
 set-before (x ∷ xs) zero k l h = before-lower k x xs xs h
 set-before (x ∷ xs) (suc i) k l h = before-rest x x (set xs i k) xs refl (set-before xs i k (le-of-suc-le-suc l) h)
 
--- of pairs, the first number decides and then the second
+-- ---- two numbers
+
+-- the first decides, and then the second
 module _ (u k v l : ℕ) where
   pub pair-cases : before (u ∷ k ∷ []) (v ∷ l ∷ []) ≡ true → (u < v) ⊎ ((u ≡ v) × (k < l))
   pair-cases t = elim (before-cases u v (k ∷ []) (l ∷ []) t) [
@@ -102,7 +107,7 @@ module _ (u k v l : ℕ) where
       let later : u ≡ v → ¬ (k < l) = λ e h. true≢false (sym (before-rest u v (k ∷ []) (l ∷ []) e (before-lower k l [] [] h)) ∙ f) in
       (omega arith, λ e. omega (arith, later (sym e)))
 
--- the same added to both first numbers changes nothing
+-- what is added to both first numbers makes no difference
 pub before-plus : (x y n : ℕ) (xs ys : List ℕ) → before ((x + n) ∷ xs) ((y + n) ∷ ys) ≡ before (x ∷ xs) (y ∷ ys)
 before-plus x y n xs ys = rw (less, equal) refl
   where
