@@ -1,100 +1,38 @@
 -- The only data that can move within an option: those with a writer on one cloud and one reader on another, from the one to the other.
--- Their transfers cost the same on both.
-use Prim.Native.Nat.{ℕ, _+_, _*_}
-use native.Mathlib.Decide.{ℕ-discrete}
+-- Only their storage changes.
+use Prim.Native.Nat.{ℕ, _+_, _*_, _≤_}
 use native.Mathlib.Omega.{arith}
 use mathlib.Core.Path.{_≡_, refl, sym, ap, _∙_}
-use mathlib.Core.Logic.{_⊎_, inl, inr}
-use mathlib.Core.Bool.{Bool, true, false, not, _&&_, cond, false≢true}
-use mathlib.Core.List.{List, [], _∷_, _++_, map, List·Memᴰ, List·Memᴰ·head}
-use mathlib.Core.Option.{some, Option·some-ne-none}
+use mathlib.Core.Logic.{_↔_}
+use mathlib.Core.Bool.{Bool, true, false, not, _&&_, cond, true≢false, false≢true}
+use mathlib.Core.List.{List, [], _∷_, map, List·Memᴰ, List·Memᴰ·head, head-eq-of-cons-eq}
+use mathlib.Core.Option.{none, some, Option·some-ne-none}
 use lib.Dec.{eqb}
 use lib.ListN.{length, getD}
-use borrow.Author.Tests.{eqb-true, eq-eqb, ne-eqb, not-true}
+use borrow.Author.Tests.{eqb-true, not-true}
 use Rattle.description.specs.declared.workflow.Kind.{Kind}
 use Rattle.description.specs.declared.workflow.Kind.the-variants.{Datum, Service}
 use Rattle.description.specs.declared.workflow.Edge.{Edge}
-use Rattle.description.specs.Format.{Description, block, cloud, isDatum, isWrite}
+use Rattle.description.specs.Format.{Description, block, cloud, noEdge, isDatum, isWrite}
 use Rattle.description.specs.Invariants.{WellFormed}
 use Rattle.rules.specs.Placements.{serviceCloud, datumCloud, moves}
 use Rattle.rules.specs.Cost.{chargedOf}
-use Rattle.rules.specs.Options.{writersOf, readersOf, branch, part}
-use Rattle.rules.specs.Representatives.{edgeCost, storedOn, share, otherEnd, SameServices}
-use Rattle.sequences.specs.Lists.{keep}
-use Rattle.sequences.proofs.Tests.{both-pass}
+use Rattle.rules.specs.Options.{writersOf, readersOf, stem, branch, joined, part}
+use Rattle.rules.specs.Representatives.{dataOf, edgeCost, storedOn, share, partOf, otherEnd, between, movesTo, SameServices}
+use Rattle.rules.proofs.Locality.{data-are, edge-service, edge-datum}
+use Rattle.rules.proofs.Paths.{beside, path, path-ends, end-apart, end-paths, carried, end-carried}
+use Rattle.sequences.specs.Lists.{keep, before}
+use Rattle.sequences.proofs.Tests.{both-pass, not-passed}
 use Rattle.sequences.proofs.Members.{keep-members}
-use Rattle.rules.proofs.Locality.{edge-service}
+use Rattle.sequences.proofs.Agreeing.{keep-none, keep-one}
 use Rattle.sequences.proofs.Equality.{snoc-same}
 use Rattle.sequences.proofs.Grouping.{sum-split}
-
--- ---- one writer, on a, and one reader, on s, of what stands on o
-
--- a cloud, if it isn't o
-abbrev pub beside : ℕ → ℕ → List ℕ
-beside o a = cond (eqb a o) [] (a ∷ [])
-
--- the path: the stem with its one branch
-abbrev pub path : (a s o : ℕ) → List ℕ
-path a s o = (beside o a ++ (o ∷ [])) ++ beside o s
-
--- the other of the two ends
-other-end : (a s b k : ℕ) → otherEnd a s b ≡ some k → (a ≡ s → ⊥) × (((b ≡ a) × (k ≡ s)) ⊎ ((b ≡ s) × (k ≡ a)))
-other-end a s b k e = go (ℕ-discrete a s) (ℕ-discrete b a) (ℕ-discrete b s)
-  where
-    go : Dec (a ≡ s) → Dec (b ≡ a) → Dec (b ≡ s) → (a ≡ s → ⊥) × (((b ≡ a) × (k ≡ s)) ⊎ ((b ≡ s) × (k ≡ a)))
-    go (yes same) ba bs = absurd (Option·some-ne-none k (sym e ∙ (rw (eq-eqb a s same) refl)))
-    go (no apart) (yes ba) bs = let f : some s ≡ some k = rw (ne-eqb a s apart, eq-eqb b a ba) at e in (apart, inl (ba, (cc)))
-    go (no apart) (no ba) (yes bs) = let f : some a ≡ some k = rw (ne-eqb a s apart, ne-eqb b a ba, eq-eqb b s bs) at e in (apart, inr (bs, (cc)))
-    go (no apart) (no ba) (no bs) = absurd (Option·some-ne-none k (sym e ∙ (rw (ne-eqb a s apart, ne-eqb b a ba, ne-eqb b s bs) refl)))
-
--- on both ends the path is the same
-pub end-paths : (a s b k : ℕ) → otherEnd a s b ≡ some k → path a s k ≡ path a s b
-end-paths a s b k e = let (apart, ends) = other-end a s b k e in elim ends [
-  | inl (ba, ks) ↦ rw (ba, ks) (turned apart)
-  | inr (bs, ka) ↦ rw (bs, ka) (sym (turned apart))
-]
-  where
-    turned : (a ≡ s → ⊥) → path a s s ≡ path a s a
-    turned apart = rw (ne-eqb a s apart, ne-eqb s a (λ z. apart (sym z)), eq-eqb s s refl, eq-eqb a a refl) refl
-
--- and on no other two clouds
-pub path-ends : (a s b k : ℕ) → (b ≡ k → ⊥) → path a s k ≡ path a s b → otherEnd a s b ≡ some k
-path-ends a s b k f e = go (ℕ-discrete s k) (ℕ-discrete s b) (ℕ-discrete a k) (ℕ-discrete a b)
-  where
-    sizes : length (path a s k) ≡ length (path a s b)
-    sizes = ap length e
-
-    go : Dec (s ≡ k) → Dec (s ≡ b) → Dec (a ≡ k) → Dec (a ≡ b) → otherEnd a s b ≡ some k
-    go (yes sk) (yes sb) ak ab = absurd (f (sym sb ∙ sk))
-    go (no sk) (no sb) ak ab =
-        let longer : (beside k a ++ (k ∷ [])) ++ (s ∷ []) ≡ (beside b a ++ (b ∷ [])) ++ (s ∷ []) = rw (ne-eqb s k sk, ne-eqb s b sb) at e in
-        let stems = snoc-same (beside k a ++ (k ∷ [])) (beside b a ++ (b ∷ [])) s s longer .0 in
-        absurd (f (sym (snoc-same (beside k a) (beside b a) k b stems .1)))
-    go (no sk) (yes sb) (yes ak) ab = rw (ne-eqb a s (λ z. f (sym sb ∙ sym z ∙ ak)), ne-eqb b a (λ z. f (z ∙ ak)), eq-eqb b s (sym sb)) (ap some ak)
-    go (no sk) (yes sb) (no ak) (yes ab) = let z = rw (ne-eqb s k sk, eq-eqb s b sb, ne-eqb a k ak, eq-eqb a b ab) at sizes in absurd (omega arith)
-    go (no sk) (yes sb) (no ak) (no ab) = let z = rw (ne-eqb s k sk, eq-eqb s b sb, ne-eqb a k ak, ne-eqb a b ab) at sizes in absurd (omega arith)
-    go (yes sk) (no sb) ak (yes ab) = rw (ne-eqb a s (λ z. sb (sym z ∙ ab)), eq-eqb b a (sym ab)) (ap some sk)
-    go (yes sk) (no sb) (yes ak) (no ab) = let z = rw (eq-eqb s k sk, ne-eqb s b sb, eq-eqb a k ak, ne-eqb a b ab) at sizes in absurd (omega arith)
-    go (yes sk) (no sb) (no ak) (no ab) = let z = rw (eq-eqb s k sk, ne-eqb s b sb, ne-eqb a k ak, ne-eqb a b ab) at sizes in absurd (omega arith)
-
--- on both ends the transfers cost the same, whatever one costs from cloud to cloud
-module _ (carry : ℕ → ℕ → ℕ) where
-  abbrev pub carried : (a s o : ℕ) → ℕ
-  carried a s o = cond (not (eqb a o)) (carry a o) 0 + cond (not (eqb s o)) (carry o s) 0
-
-  pub end-carried : (a s b k : ℕ) → otherEnd a s b ≡ some k → carried a s k ≡ carried a s b
-  end-carried a s b k e = let (apart, ends) = other-end a s b k e in elim ends [
-    | inl (ba, ks) ↦ rw (ba, ks) (turned apart)
-    | inr (bs, ka) ↦ rw (bs, ka) (sym (turned apart))
-  ]
-    where
-      turned : (a ≡ s → ⊥) → carried a s s ≡ carried a s a
-      turned apart = rw (ne-eqb a s apart, ne-eqb s a (λ z. apart (sym z)), eq-eqb s s refl, eq-eqb a a refl) (omega arith)
+use Rattle.sequences.proofs.Lexicographic.{before-plus}
 
 -- ---- a datum with one writer and one reader
 
 -- what carrying datum n from one cloud to another costs
-abbrev pub carry : Description → ℕ → ℕ → ℕ → ℕ
+abbrev carry : Description → ℕ → ℕ → ℕ → ℕ
 carry d n from to = (cloud d from .outward + cloud d to .inward) * chargedOf (block d n .kind)
 
 lead-away : (t : Bool) (f : Edge → ℕ) (e : Edge) → map f (cond (not t) (e ∷ []) []) ≡ cond t [] (f e ∷ [])
@@ -136,7 +74,7 @@ module _ (d : Description) (w : WellFormed d) (p q : List ℕ) (same : SameServi
   reader-tip = tip-away (eqb (serviceCloud q y) (datumCloud q y)) (serviceCloud q y) ∙ (rw (reader-is .2, reader-cloud) refl)
 
   -- its part is the one path
-  pub one-part : (k : Kind) → isDatum k ≡ true → part d q n k ≡ path (serviceCloud p x) (serviceCloud p y) (getD q n 0) ∷ []
+  one-part : (k : Kind) → isDatum k ≡ true → part d q n k ≡ path (serviceCloud p x) (serviceCloud p y) (getD q n 0) ∷ []
   one-part (Service clearance units) t = absurd (false≢true t)
   one-part (Datum size longevity) t = rw (writers, readers, writer-lead, reader-tip) refl
 
@@ -149,8 +87,121 @@ module _ (d : Description) (w : WellFormed d) (p q : List ℕ) (same : SameServi
   reader-cost = rw (reader-is .1, reader-is .2, reader-cloud) refl
 
   -- its share is its storage, and what the two edges carry
-  pub one-share : share d q n ≡ storedOn d n (getD q n 0) + carried (carry d n) (serviceCloud p x) (serviceCloud p y) (getD q n 0)
+  one-share : share d q n ≡ storedOn d n (getD q n 0) + carried (carry d n) (serviceCloud p x) (serviceCloud p y) (getD q n 0)
   unfolding share
   one-share =
       let split = rw (writers, readers) at (sum-split (λ e. isWrite (e .way)) (λ e. eqb (e .datum) n) (edgeCost d q) (d .edges)) in
       omega (arith, split, writer-cost, reader-cost)
+
+-- ---- the two ends
+
+-- a datum's part, whatever its kind's numbers
+abbrev paths : Description → List ℕ → ℕ → List (List ℕ)
+paths d p n = joined (stem d p n) (map (branch p) (readersOf d n))
+
+datum-part : (d : Description) (p : List ℕ) (n : ℕ) (k : Kind) → isDatum k ≡ true → part d p n k ≡ paths d p n
+datum-part d p n (Datum size longevity) t = refl
+datum-part d p n (Service clearance units) t = absurd (false≢true t)
+
+-- one writer and one reader, with n on the cloud of one and k the cloud of the other
+record Ends (d : Description) (p : List ℕ) (n k : ℕ) : Type 0 where
+  writer : Edge
+  reader : Edge
+  writers : writersOf d n ≡ writer ∷ []
+  readers : readersOf d n ≡ reader ∷ []
+  ends : otherEnd (serviceCloud p writer) (serviceCloud p reader) (getD p n 0) ≡ some k
+
+-- a block moves only between two ends
+ends-of : (d : Description) (p : List ℕ) (n k : ℕ) → (movesTo d p n ≡ some k) ↔ Ends d p n k
+unfolding movesTo
+ends-of d p n k = (go (writersOf d n) (readersOf d n) refl refl, λ e. rw (e .writers, e .readers) (e .ends))
+  where
+    go : (ws rs : List Edge) → writersOf d n ≡ ws → readersOf d n ≡ rs → between p (getD p n 0) ws rs ≡ some k → Ends d p n k
+    go [] rs ew er e = absurd (Option·some-ne-none k (sym e))
+    go (x ∷ v ∷ ws) rs ew er e = absurd (Option·some-ne-none k (sym e))
+    go (x ∷ []) [] ew er e = absurd (Option·some-ne-none k (sym e))
+    go (x ∷ []) (y ∷ z ∷ rs) ew er e = absurd (Option·some-ne-none k (sym e))
+    go (x ∷ []) (y ∷ []) ew er e = record { writer = x; reader = y; writers = ew; readers = er; ends = e }
+
+module _ (d : Description) (w : WellFormed d) where
+  -- no datum has two writers
+  one-writer : (n : ℕ) → length (writersOf d n) ≤ 1
+  one-writer n = keep-one (λ e. isWrite (e .way) && eqb (e .datum) n) noEdge (d .edges) (λ i j a b t u.
+      let (writes, here) = both-pass _ _ .0 t in
+      let (writes′, here′) = both-pass _ _ .0 u in
+      w .oneWriter i j a b writes writes′ (eqb-true _ _ here ∙ sym (eqb-true _ _ here′)))
+
+  -- A service has no writer, so it moves nowhere.
+  pub service-still : (p : List ℕ) (n : ℕ) → isDatum (block d n .kind) ≡ false → movesTo d p n ≡ none
+  unfolding movesTo
+  service-still p n f =
+      let unwritten : writersOf d n ≡ [] = keep-none (λ e. isWrite (e .way) && eqb (e .datum) n) (d .edges) (λ e m. not-passed _ (λ t.
+      let here = eqb-true (e .datum) n (both-pass (isWrite (e .way)) (eqb (e .datum) n) .0 t .1) in
+      true≢false (sym (data-are d (e .datum) .0 (edge-datum d w e m) .1) ∙ (rw here f)))) in
+      rw unwritten refl
+
+  -- n in two placements that have the services on the same clouds
+  module _ (p q : List ℕ) (services : SameServices d q p) (n : ℕ) (datum : List·Memᴰ n (dataOf d)) where
+    is-datum : isDatum (block d n .kind) ≡ true
+    is-datum = data-are d n .0 datum .1
+
+    ours : SameServices d p p
+    ours m s = refl
+
+    -- the stem ends where the datum stands
+    stems-tell : stem d q n ≡ stem d p n → getD q n 0 ≡ getD p n 0
+    stems-tell e =
+        snoc-same (map (serviceCloud q) (keep (moves q) (writersOf d n))) (map (serviceCloud p) (keep (moves p) (writersOf d n))) (getD q n 0) (getD p n 0) e .1
+
+    -- where its part is the same on two clouds, these are its two ends
+    part-moves : (getD p n 0 ≡ getD q n 0 → ⊥) → partOf d q n ≡ partOf d p n → movesTo d p n ≡ some (getD q n 0)
+    unfolding movesTo
+    part-moves other alike = go (writersOf d n) (readersOf d n) refl refl
+      where
+        equal : paths d q n ≡ paths d p n
+        equal = sym (datum-part d q n (block d n .kind) is-datum) ∙ alike ∙ datum-part d p n (block d n .kind) is-datum
+
+        stuck : {A : Type 0} → stem d q n ≡ stem d p n → A
+        stuck e = absurd (other (sym (stems-tell e)))
+
+        go : (ws rs : List Edge) → writersOf d n ≡ ws → readersOf d n ≡ rs → movesTo d p n ≡ some (getD q n 0)
+        go ws [] ew er = stuck (head-eq-of-cons-eq (rw er at equal))
+        go ws (y ∷ z ∷ rs) ew er = stuck (head-eq-of-cons-eq (rw er at equal))
+        go [] (y ∷ []) ew er = absurd (other (sym (head-eq-of-cons-eq (head-eq-of-cons-eq (rw (ew, er) at equal)))))
+        go (x ∷ v ∷ ws) (y ∷ []) ew er = absurd (omega (arith, rw ew at (one-writer n)))
+        go (x ∷ []) (y ∷ []) ew er =
+            let one-path = sym (one-part d w p q services n x y ew er (block d n .kind) is-datum) ∙ alike
+            ∙ one-part d w p p ours n x y ew er (block d n .kind) is-datum in
+            ends-of d p n (getD q n 0) .1 (record {
+              writer = x;
+              reader = y;
+              writers = ew;
+              readers = er;
+              ends = path-ends (serviceCloud p x) (serviceCloud p y) (getD p n 0) (getD q n 0) other (head-eq-of-cons-eq one-path);
+            })
+
+    moves-away : movesTo d p n ≡ some (getD q n 0) → getD p n 0 ≡ getD q n 0 → ⊥
+    moves-away e =
+        let ends = ends-of d p n (getD q n 0) .0 e in
+        end-apart (serviceCloud p (ends .writer)) (serviceCloud p (ends .reader)) (getD p n 0) (getD q n 0) (ends .ends)
+
+    moves-part : movesTo d p n ≡ some (getD q n 0) → partOf d q n ≡ partOf d p n
+    moves-part e =
+        let record { writer = x; reader = y; writers = ew; readers = er; ends = ends } = ends-of d p n (getD q n 0) .0 e in
+        one-part d w p q services n x y ew er (block d n .kind) is-datum
+        ∙ ap (λ (l : List ℕ). l ∷ []) (end-paths (serviceCloud p x) (serviceCloud p y) (getD p n 0) (getD q n 0) ends)
+        ∙ sym (one-part d w p p ours n x y ew er (block d n .kind) is-datum)
+
+    -- The one other cloud on which a datum has the same part is that to which it moves.
+    pub moves-to : (movesTo d p n ≡ some (getD q n 0)) ↔ ((getD p n 0 ≡ getD q n 0 → ⊥) × (partOf d q n ≡ partOf d p n))
+    moves-to = (λ e. (moves-away e, moves-part e), λ h. part-moves (h .0) (h .1))
+
+    -- By its shares on both, or by its storage alone: the order is the same.
+    pub moves-cost : movesTo d p n ≡ some (getD q n 0) → (ks ls : List ℕ)
+        → before (share d q n ∷ ks) (share d p n ∷ ls) ≡ before (storedOn d n (getD q n 0) ∷ ks) (storedOn d n (getD p n 0) ∷ ls)
+    moves-cost e ks ls =
+        let record { writer = x; reader = y; writers = ew; readers = er; ends = ends } = ends-of d p n (getD q n 0) .0 e in
+        let a = serviceCloud p x in
+        let s = serviceCloud p y in
+        rw (one-share d w p q services n x y ew er, one-share d w p p ours n x y ew er, end-carried (carry d n) a s (getD p n 0) (getD q n 0) ends)
+        (before-plus (storedOn d n (getD q n 0)) (storedOn d n (getD p n 0)) (carried (carry d n) a s (getD p n 0)) ks ls)

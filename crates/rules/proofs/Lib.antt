@@ -8,6 +8,7 @@ pub mod Locality
 pub mod Mixing
 pub mod Moving
 pub mod Options
+pub mod Paths
 pub mod Reached
 pub mod Representatives
 pub mod Storage

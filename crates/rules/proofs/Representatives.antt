@@ -28,7 +28,7 @@ use Rattle.sequences.proofs.Members.{keep-members, below-members}
 use Rattle.sequences.proofs.Agreeing.{none-pass}
 use Rattle.sequences.proofs.Equality.{equalBy-decides, same-decides}
 use Rattle.sequences.proofs.Choices.{before-irreflexive}
-use Rattle.sequences.proofs.Lexicographic.{before-cases, before-lower, before-rest, before-transitive, before-total, not-before, set-before, pair-cases, pair-not-before}
+use Rattle.sequences.proofs.Lexicographic.{before-cases, before-lower, before-rest, before-transitive, before-total, not-before, set-before, pair-before, pair-not-before}
 use Rattle.sequences.proofs.Grouping.{sum-below, sum-each}
 use Rattle.sequences.proofs.Least.{least}
 
@@ -119,7 +119,7 @@ module _ (d : Description) (w : WellFormed d) where
       let size = candidates-stand d w p .0 (cp .candidate) .0 in
       let low = block-low d w n (data-are d n .0 m .0) in
       first q (moved-secure d w p cp n m k may) (moved-same d w p cp n m k may part)
-      (elim (pair-cases (share d q n) k (share d p n) (getD p n 0) lower) [
+      (elim (pair-before (share d q n) k (share d p n) (getD p n 0) .0 lower) [
         | inl less ↦ before-lower (cost d q) (cost d p) q p (omega arith)
         | inr (equal, less) ↦ before-rest (cost d q) (cost d p) q p (omega arith) (set-before p n k (omega arith) less)
       ])))

@@ -83,6 +83,14 @@ standsByStorage d p = not (any (λ n. cheaperOn d p n (movesTo d p n)) (below (l
 
 -- ---- the words of the laws
 
+-- Block n can move to cloud k in its option, may stand there, and is stored there at a lower cost, or at the same cost on a lower
+-- cloud.
+pub record MovesDown (d : Description) (p : List ℕ) (n k : ℕ) : Type 0 where
+  pub declared : n < length (d .blocks)
+  pub moves : movesTo d p n ≡ some k
+  pub stands : mayStand d n k ≡ true
+  pub lower : (storedOn d n k < storedOn d n (getD p n 0)) ⊎ ((storedOn d n k ≡ storedOn d n (getD p n 0)) × (k < getD p n 0))
+
 -- every service stands on the same cloud in both
 abbrev pub SameServices : Description → List ℕ → List ℕ → Type 0
 SameServices d p q = (n : ℕ) → namesService d n ≡ true → getD p n 0 ≡ getD q n 0

@@ -3,14 +3,14 @@
 use Prim.Native.Nat.{ℕ, suc, _≤_, _<_, zero-le}
 use native.Mathlib.Nat.{zero-lt-suc, suc-inj, le-refl}
 use native.Mathlib.Omega.{arith}
-use mathlib.Core.Path.{_≡_, refl, sym, ap₂}
+use mathlib.Core.Path.{_≡_, refl, sym, ap₂, _∙_}
 use mathlib.Core.Logic.{_↔_, inl, inr}
-use mathlib.Core.Bool.{Bool, true, false, false≢true}
+use mathlib.Core.Bool.{Bool, true, false, true≢false, false≢true, Bool-discrete}
 use mathlib.Core.List.{List, [], _∷_, map, head-eq-of-cons-eq, tail-eq-of-cons-eq}
 use mathlib.Core.List.{List·Memᴰ, List·Memᴰ·head, List·Memᴰ·tail, List·Memᴰ·not-nil, List·Memᴰ·cases-cons}
 use lib.ListN.{length, getD}
 use Rattle.sequences.specs.Lists.{any, keep}
-use Rattle.sequences.proofs.Tests.{cond-ind, not-passed, or-fails}
+use Rattle.sequences.proofs.Tests.{cond-ind, not-passed, not-failed, or-fails}
 
 -- two tests that pass together agree
 pub tests-agree : (a b : Bool) → (a ≡ true) ↔ (b ≡ true) → a ≡ b
@@ -50,7 +50,18 @@ none-pass t (x ∷ xs) = (
   λ h. rw (h x (List·Memᴰ·head refl)) (none-pass t xs .1 (λ y m. h y (List·Memᴰ·tail m))),
 )
 
--- then nothing is kept
+-- some element passes exactly where one can be shown
+pub some-passes : {A : Type 0} (t : A → Bool) (xs : List A) → (any t xs ≡ true) ↔ ((x : A) × List·Memᴰ x xs × (t x ≡ true))
+some-passes {A} t xs = (found xs, λ (x, m, e). not-failed _ (λ f. true≢false (sym e ∙ none-pass t xs .0 f x m)))
+  where
+    found : (ys : List A) → any t ys ≡ true → (x : A) × List·Memᴰ x ys × (t x ≡ true)
+    found [] e = absurd (false≢true e)
+    found (y ∷ ys) e = elim (Bool-discrete (t y) true) [
+      | yes here ↦ (y, List·Memᴰ·head refl, here)
+      | no away ↦ let (x, m, u) = found ys (rw (not-passed (t y) away) at e) in (x, List·Memᴰ·tail m, u)
+    ]
+
+-- where each fails, nothing is kept
 pub keep-none : {A : Type 0} (t : A → Bool) (xs : List A) → ((x : A) → List·Memᴰ x xs → t x ≡ false) → keep t xs ≡ []
 keep-none t [] h = refl
 keep-none t (x ∷ xs) h = rw (h x (List·Memᴰ·head refl)) (keep-none t xs (λ y m. h y (List·Memᴰ·tail m)))

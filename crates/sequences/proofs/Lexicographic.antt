@@ -4,7 +4,7 @@ use native.Mathlib.Nat.{zero-lt-suc, suc-inj, not-suc-le-zero, le-of-suc-le-suc}
 use native.Mathlib.Decide.{decLt, ℕ-discrete}
 use native.Mathlib.Omega.{arith}
 use mathlib.Core.Path.{_≡_, refl, sym, ap₂, _∙_}
-use mathlib.Core.Logic.{_⊎_, inl, inr}
+use mathlib.Core.Logic.{_↔_, _⊎_, inl, inr}
 use mathlib.Core.Bool.{Bool, true, false, _&&_, _||_, true≢false, false≢true}
 use mathlib.Core.List.{List, [], _∷_}
 use lib.Dec.{ltb, eqb}
@@ -95,16 +95,22 @@ set-before (x ∷ xs) (suc i) k l h = before-rest x x (set xs i k) xs refl (set-
 
 -- the first decides, and then the second
 module _ (u k v l : ℕ) where
-  pub pair-cases : before (u ∷ k ∷ []) (v ∷ l ∷ []) ≡ true → (u < v) ⊎ ((u ≡ v) × (k < l))
-  pair-cases t = elim (before-cases u v (k ∷ []) (l ∷ []) t) [
-    | inl h ↦ inl h
-    | inr (e, rest) ↦ elim (before-cases k l [] [] rest) [ inl h ↦ inr (e, h) | inr n ↦ absurd (false≢true (n .1)) ]
-  ]
+  pub pair-before : (before (u ∷ k ∷ []) (v ∷ l ∷ []) ≡ true) ↔ ((u < v) ⊎ ((u ≡ v) × (k < l)))
+  pair-before = (
+    λ t. elim (before-cases u v (k ∷ []) (l ∷ []) t) [
+      | inl h ↦ inl h
+      | inr (e, rest) ↦ elim (before-cases k l [] [] rest) [ inl h ↦ inr (e, h) | inr n ↦ absurd (false≢true (n .1)) ]
+    ],
+    λ c. elim c [
+      | inl h ↦ before-lower u v (k ∷ []) (l ∷ []) h
+      | inr (e, h) ↦ before-rest u v (k ∷ []) (l ∷ []) e (before-lower k l [] [] h)
+    ],
+  )
 
   pub pair-not-before : before (u ∷ k ∷ []) (v ∷ l ∷ []) ≡ false → (v ≤ u) × (v ≡ u → l ≤ k)
   pair-not-before f =
-      let high : ¬ (u < v) = λ h. true≢false (sym (before-lower u v (k ∷ []) (l ∷ []) h) ∙ f) in
-      let later : u ≡ v → ¬ (k < l) = λ e h. true≢false (sym (before-rest u v (k ∷ []) (l ∷ []) e (before-lower k l [] [] h)) ∙ f) in
+      let high : ¬ (u < v) = λ h. true≢false (sym (pair-before .1 (inl h)) ∙ f) in
+      let later : u ≡ v → ¬ (k < l) = λ e h. true≢false (sym (pair-before .1 (inr (e, h))) ∙ f) in
       (omega arith, λ e. omega (arith, later (sym e)))
 
 -- what is added to both first numbers makes no difference
