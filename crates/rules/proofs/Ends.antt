@@ -35,6 +35,7 @@ use Rattle.sequences.proofs.Lexicographic.{before-plus}
 abbrev carry : Description → ℕ → ℕ → ℕ → ℕ
 carry d n from to = (cloud d from .outward + cloud d to .inward) * chargedOf (block d n .kind)
 
+-- a stem and a branch of one edge, where the edge's service is on the datum's cloud and where it isn't
 lead-away : (t : Bool) (f : Edge → ℕ) (e : Edge) → map f (cond (not t) (e ∷ []) []) ≡ cond t [] (f e ∷ [])
 lead-away true f e = refl
 lead-away false f e = refl
@@ -43,6 +44,7 @@ tip-away : (t : Bool) (k : ℕ) → cond (not t) (k ∷ []) [] ≡ cond t [] (k 
 tip-away true k = refl
 tip-away false k = refl
 
+-- by the clouds of writer and reader in p, in any placement q that has the services on the same clouds
 module _ (d : Description) (w : WellFormed d) (p q : List ℕ) (same : SameServices d q p) (n : ℕ)
     (x y : Edge) (writers : writersOf d n ≡ x ∷ []) (readers : readersOf d n ≡ y ∷ []) where
   writer-is : List·Memᴰ x (d .edges) × (isWrite (x .way) ≡ true) × (x .datum ≡ n)

@@ -95,5 +95,5 @@ module _ (d : Description) (w : WellFormed d) where
       cost-shares d w p,
       cpu-local d (set p n k) p moved-services,
       sum-but-one (share d (set p n k)) (share d p) (dataOf d) (data-once d) n datum
-      (λ m _ other. share-local d w (set p n k) p moved-services m (getD-set-other p n m k 0 other)),
+          (λ m _ other. share-local d w (set p n k) p moved-services m (getD-set-other p n m k 0 other)),
     )

@@ -89,11 +89,11 @@ module _ (d : Description) (w : WellFormed d) where
     not-higher : cost d q ≤ cost d p → (n : ℕ) → n < 16 → getD p n 0 ≤ getD q n 0
     not-higher h n l = elim (decLt n (length (d .blocks))) [
       | yes low ↦ elim (Bool-discrete (isDatum (block d n .kind)) true) [
-          | yes t ↦
-              let m = data-are d n .1 (low, t) in
-              datum-not-lower n m .1 (sum-each (share d p) (share d q) (dataOf d) shares-not-lower (costs h) n m)
-          | no f ↦ le-of-eq (sym (services n (both-pass _ _ .1 (lt-ltb _ _ low, ap not (not-passed _ f)))))
-        ]
+        | yes t ↦
+            let m = data-are d n .1 (low, t) in
+            datum-not-lower n m .1 (sum-each (share d p) (share d q) (dataOf d) shares-not-lower (costs h) n m)
+        | no f ↦ le-of-eq (sym (services n (both-pass _ _ .1 (lt-ltb _ _ low, ap not (not-passed _ f)))))
+      ]
       | no past ↦
           let inP = may-stand d p n .0 (candidates-stand d w p .0 (cp .candidate) .1 n l) .beyond (omega arith) in
           omega arith
@@ -102,8 +102,12 @@ module _ (d : Description) (w : WellFormed d) where
     passes-first : Earlier d q p → ⊥
     passes-first t = elim (before-cases (cost d q) (cost d p) q p t) [
       | inl lower ↦ omega (
-          arith, cost-shares d w p, cost-shares d w q, cpu-local d q p services, sum-below (share d p) (share d q) (dataOf d) shares-not-lower,
-        )
+        arith,
+        cost-shares d w p,
+        cost-shares d w q,
+        cpu-local d q p services,
+        sum-below (share d p) (share d q) (dataOf d) shares-not-lower,
+      )
       | inr (equal, rest) ↦
           let sizes = candidates-stand d w p .0 (cp .candidate) .0 in
           not-before p q (sizes ∙ sym (candidates-stand d w q .0 (cq .candidate) .0)) (λ n l. not-higher (le-of-eq equal) n (omega arith)) rest
@@ -163,10 +167,12 @@ module _ (d : Description) (w : WellFormed d) where
           let (candidate, t) = keep-members test (candidates d) q .0 m in
           let (safe, alike) = both-pass _ _ .0 t in
           let cq : SecureCandidate d q = record { candidate = candidate; safe = safe } in
-          let first : First d q = λ r cr u e. true≢false (sym e ∙ low r (listed r cr (same-transitive d r q p u alike))) in
-          (q, record {
-            secure = cq;
-            stands = local-is-global q cq .1 first;
-            same = alike;
-            earlier = first-earlier q p first cp (same-symmetric d q p alike);
-          })
+          let first : First d q = λ r cr u e. true≢false (sym e ∙ low r (listed r cr (same-transitive d r q p u alike))) in (
+            q,
+            record {
+              secure = cq;
+              stands = local-is-global q cq .1 first;
+              same = alike;
+              earlier = first-earlier q p first cp (same-symmetric d q p alike);
+            },
+          )

@@ -25,7 +25,7 @@ dataOf d = keep (λ n. isDatum (block d n .kind)) (below (length (d .blocks)))
 abbrev pub edgesOf : Description → ℕ → List Edge
 edgesOf d n = keep (λ e. eqb (e .datum) n) (d .edges)
 
--- what the transfer on an edge costs, where there is one (its number doesn't matter)
+-- what the transfer on an edge costs, 0 where there is none; the edge's number has no part in it
 unfoldable pub edgeCost : Description → List ℕ → Edge → ℕ
 edgeCost d p e = cond (moves p e) (transferCost d (transferOf 0 p e)) 0
 
@@ -60,7 +60,7 @@ standsLocally d p = not (any (λ n. any (betterOn d p n) (below 8)) (dataOf d))
 abbrev pub otherEnd : (a c b : ℕ) → Option ℕ
 otherEnd a c b = cond (eqb a c) none (cond (eqb b a) (some c) (cond (eqb b c) (some a) none))
 
--- by the writers and the readers of what stands on b: a writer and one reader are the two ends
+-- of what stands on b, by its writers and readers: where there is one of each, they are the two ends
 abbrev pub between : List ℕ → ℕ → (writers readers : List Edge) → Option ℕ
 between p b [] readers = none
 between p b (w ∷ v ∷ writers) readers = none
@@ -78,6 +78,7 @@ abbrev pub cheaperOn : Description → List ℕ → ℕ → Option ℕ → Bool
 cheaperOn d p n none = false
 cheaperOn d p n (some k) = mayStand d n k && before (storedOn d n k ∷ k ∷ []) (storedOn d n (getD p n 0) ∷ getD p n 0 ∷ [])
 
+-- no block is cheaper where it can move to
 unfoldable pub standsByStorage : Description → List ℕ → Bool
 standsByStorage d p = not (any (λ n. cheaperOn d p n (movesTo d p n)) (below (length (d .blocks))))
 

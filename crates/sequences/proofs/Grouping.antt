@@ -45,10 +45,10 @@ module _ {A : Type 0} (f g : A → ℕ) where
         ap sum (map-agree f g xs (λ x k. h x (List·Memᴰ·tail k) (λ same. once .0 (Memᴰ·cast (sym e ∙ sym same) k)))) in
         rw e (omega arith)
     | inr k ↦ omega (
-        arith,
-        h y (List·Memᴰ·head refl) (λ same. once .0 (Memᴰ·cast same k)),
-        sum-but-one xs (once .1) n k (λ x j. h x (List·Memᴰ·tail j)),
-      )
+      arith,
+      h y (List·Memᴰ·head refl) (λ same. once .0 (Memᴰ·cast same k)),
+      sum-but-one xs (once .1) n k (λ x j. h x (List·Memᴰ·tail j)),
+    )
   ]
 
 module _ {A : Type 0} where
