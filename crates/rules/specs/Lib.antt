@@ -6,6 +6,7 @@ pub mod Inputs
 pub mod Options
 pub mod Placements
 pub mod Reached
+pub mod Representatives
 pub mod Soundness
 pub mod Statements
 pub mod Terms
