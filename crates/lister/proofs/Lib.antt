@@ -2,3 +2,4 @@ pub mod Census
 pub mod Drawing
 pub mod Interview
 pub mod RowOrder
+pub mod Walked

@@ -1,4 +1,5 @@
 pub mod Calls
 pub mod Interview
 pub mod ItemThree
+pub mod Joining
 pub mod Rows
