@@ -6,3 +6,4 @@ pub mod Judging
 pub mod Reached
 pub mod SameOption
 pub mod Transferring
+pub mod Weights

@@ -33,7 +33,7 @@ pub fn gigabytes(size: u16) -> u64
     (size as u64 + 9) / 10
 }
 
-fn charged_of(k: Kind) -> u64
+pub fn charged_of(k: Kind) -> u64
     ensures { λ r. ⌜ r ≡ chargedOf k ⌝ }
     ensures { λ r. ⌜ r ≤ 6554 ⌝ }
 {
@@ -143,15 +143,4 @@ pub fn cost(w: Workflow, placement: [u8; 16]) -> u64
     let transfer = transfers_cost(w, placement);
     let cpu = blocks_cost(Charge::Cpu, w, placement);
     storage + transfer + cpu
-}
-
-// What block b adds to a placement's weight on cloud k.
-pub fn block_term(w: Workflow, b: usize, k: usize) -> u64
-    ensures { λ r. ⌜ r ≡ blockTerm (describes w) b k ⌝ }
-    ensures { λ r. ⌜ r < 2 ^ 49 ⌝ }
-{
-    let cloud = cloud_at(w, k);
-    let block = block_at(w, b);
-    let kind = block.kind;
-    storage_of(cloud, kind) + cpu_of(cloud, kind)
 }

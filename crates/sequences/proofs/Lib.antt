@@ -7,6 +7,7 @@ pub mod Equivalences
 pub mod First
 pub mod Loops
 pub mod Members
+pub mod Numbers
 pub mod Orders
 pub mod Parts
 pub mod Positions
