@@ -14,3 +14,4 @@ pub mod Representatives
 pub mod SameOption
 pub mod Storage
 pub mod Transferring
+pub mod Weights

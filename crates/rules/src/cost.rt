@@ -33,7 +33,7 @@ pub fn gigabytes(size: u16) -> u64
     (size as u64 + 9) / 10
 }
 
-fn charged_of(k: Kind) -> u64
+pub fn charged_of(k: Kind) -> u64
     ensures { λ r. ⌜ r ≡ chargedOf k ⌝ }
     ensures { λ r. ⌜ r ≤ 6554 ⌝ }
 {

@@ -12,6 +12,7 @@ pub mod Least
 pub mod Lexicographic
 pub mod Loops
 pub mod Members
+pub mod Numbers
 pub mod Orders
 pub mod Parts
 pub mod Positions
