@@ -20,7 +20,7 @@ use Rattle.walk.specs.Visiting.{earlier as walkEarlier}
 use Rattle.walk.specs.Walking.{seeAll}
 use Rattle.walk.specs.declared.visit.Seen.{Seen}
 use Rattle.walk.specs.declared.visit.Task.{Task}
-use Rattle.walk.proofs.Seeing.{seen-16, seen-17, seen-secure, seen-rows}
+use Rattle.walk.proofs.Tallies.{seen-16, seen-17, seen-secure, seen-rows}
 use Rattle.walk.proofs.Finding.{Fits, Kept, kept-all}
 use Rattle.lister.specs.declared.Row.{Row}
 use Rattle.lister.specs.declared.Cursor.{Cursor}

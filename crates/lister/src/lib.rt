@@ -3,7 +3,7 @@ ghost use mathlib.Core.Path.{_≡_};
 ghost use Rattle.lister.specs.Answers.{censusAnswer, drawAnswer, rowBeside};
 ghost use Rattle.lister.specs.Calls.{censusCall, drawCall};
 
-pub mod tables;
+
 
 use description::workflow::Outcome;
 use description::workflow::Refusal;

@@ -10,7 +10,7 @@ use Rattle.sequences.specs.Draws.{betterIf, beats}
 use Rattle.walk.specs.declared.visit.Seen.{Seen}
 use Rattle.walk.specs.declared.visit.Task.{Task}
 use Rattle.walk.specs.Visiting.{isSecure, breaks16, earlier, wanted}
-use Rattle.walk.proofs.Seeing.{seeing, pick, row as rowSeen, other, sixteen, seventeen, see-is}
+use Rattle.walk.proofs.Tallies.{seeing, pick, row as rowSeen, other, sixteen, seventeen, see-is}
 
 module _ {A R : Type 0} (test : R → R → Bool) (later : R → Bool) (row : A → R) (price : R → ℕ) (weight number : A → ℕ) (stands sec : A → Bool) (t : Task) (all : List A) where
   -- What ties weights and numbers to rows: a weight below 2^53 says secure and is then the row's price; rows come by price and then by
