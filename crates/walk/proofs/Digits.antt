@@ -1,14 +1,15 @@
 -- Packing: digits and their number are each other's, a digit by its position, and packed placements are in the order of their lists.
 use Prim.Native.Nat.{ℕ, zero, suc, _+_, _-_, _*_, _/_, _%_, _^_, _≤_, _<_}
 use native.Mathlib.Nat.{le-refl, suc-inj, div-one, mul-assoc, pow-suc, pow-succ', pow-le-pow-right}
+use native.Mathlib.Numerals.{add-one}
 use native.Mathlib.Omega.{arith}
 use native.Mathlib.Decide.{ℕ-discrete, decLt}
 use mathlib.Core.Path.{_≡_, refl, sym, ap, ap₂, _∙_}
 use mathlib.Core.List.{List, [], _∷_, _++_, append-nil, append-assoc}
 use lib.Dec.{ltb, eqb}
-use lib.ListN.{length, getD, replicate, length-append, length-replicate, List·getD-append, List·getD-eq-default}
-use lib.Seq.{getD-at}
-use lib.Pow.{shr-shr}
+use lib.ListN.{length, getD, set, take, replicate, length-append, length-replicate, List·getD-append, List·getD-eq-default}
+use lib.Seq.{getD-at, set-at, take-suc, length-take-le}
+use lib.Pow.{shr-shr, pow-add}
 use borrow.Author.Tests.{lt-ltb, le-ltb, eq-eqb, ne-eqb}
 use Rattle.sequences.specs.Lists.{same, before}
 use Rattle.walk.specs.Packing.{packFrom, pack, digits, Low}
@@ -16,6 +17,13 @@ use Rattle.walk.specs.Packing.{packFrom, pack, digits, Low}
 -- a packed placement of at most 16 blocks
 pub place-small : (n p : ℕ) → n ≤ 16 → p < 8 ^ n → p < 2 ^ 48
 place-small n p h l = omega (arith, pow-le-pow-right {n = 8} (omega arith) {i = n} {j = 16} (omega arith))
+
+-- a shift by three bits for each digit
+pub eight : (n : ℕ) → 8 ^ n ≡ 2 ^ (3 * n)
+eight zero = refl
+eight (suc n) =
+    let e : 3 * suc n ≡ 3 * n + 3 = omega arith in
+    rw (e, pow-add 2 (3 * n) 3, pow-suc 8 n, eight n)
 
 pub digits-length : (n p : ℕ) → length (digits n p) ≡ n
 unfolding digits
@@ -145,3 +153,14 @@ packFrom-same a (x ∷ p) (y ∷ q) e l m = elim (ℕ-discrete x y) [
 pub pack-same : (p q : List ℕ) → length p ≡ length q → Low p → Low q → eqb (pack p) (pack q) ≡ same p q
 unfolding pack
 pack-same p q = packFrom-same 0 p q
+
+-- ---- sixteen bytes
+
+-- the next element of a list, stored behind those before it
+pub fill-next : (l : List ℕ) (b : ℕ) → b < length l → length l ≤ 16
+    → set (take b l ++ replicate (16 - b) 0) b (getD l b 0) ≡ take (b + 1) l ++ replicate (16 - (b + 1)) 0
+fill-next l b h k =
+    let e : 16 - b ≡ suc (16 - (b + 1)) = omega arith in
+    rw e (set-at (take b l) 0 (replicate (16 - (b + 1)) 0) (getD l b 0) b (length-take-le b l (omega arith))
+    ∙ sym (append-assoc (take b l) (getD l b 0 ∷ []) (replicate (16 - (b + 1)) 0))
+    ∙ ap (λ x. x ++ replicate (16 - (b + 1)) 0) (sym (ap (λ n. take n l) (add-one b) ∙ take-suc l b 0 h)))

@@ -12,7 +12,7 @@ use Rattle.sequences.specs.Lists.{before}
 use Rattle.sequences.proofs.Loops.{rest}
 use Rattle.walk.specs.Packing.{packFrom, pack, Low}
 use Rattle.walk.specs.Floors.{FloorOf}
-use Rattle.walk.proofs.Digits.{pack-less, packFrom-zeros}
+use Rattle.walk.proofs.Digits.{eight, pack-less, packFrom-zeros}
 
 -- the floor of n more bytes, with those before them packed as `a`
 abbrev pub floorFrom : (a n : ℕ) → List ℕ → ℕ
@@ -78,3 +78,16 @@ floor-is bytes n h e = record {
     omega (arith, rw z at (floor-most 0 1 bytes (replicate n 0) (omega arith)), packFrom-zeros 1 n);
   after = λ q f l. rw (← f) (floor-after 0 (16 - length q) bytes q (omega arith) l);
 }
+
+module _ (a n b : ℕ) (bytes : List ℕ) (h : b < n) (l : n ≤ length bytes) where
+  -- a byte that is a cloud is packed
+  pub floor-next : getD bytes b 0 < 8 → floorFrom a (n - b) (drop b bytes) ≡ floorFrom (a * 8 + getD bytes b 0) (n - (b + 1)) (drop (b + 1) bytes)
+  floor-next u =
+      let e : n - b ≡ suc (n - (b + 1)) = omega arith in
+      rw (e, rest bytes 0 b (omega arith), lt-ltb (getD bytes b 0) 8 u)
+
+  -- at one that is not, the next number is scaled up
+  pub floor-stop : 8 ≤ getD bytes b 0 → floorFrom a (n - b) (drop b bytes) ≡ (a + 1) * 2 ^ (3 * (n - b))
+  floor-stop u =
+      let e : n - b ≡ suc (n - (b + 1)) = omega arith in
+      rw (e, rest bytes 0 b (omega arith), le-ltb (getD bytes b 0) 8 u, ← eight (suc (n - (b + 1)))) (packFrom-zeros (a + 1) (suc (n - (b + 1))))

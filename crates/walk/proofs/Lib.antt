@@ -1,2 +1,4 @@
 pub mod Digits
 pub mod Floors
+pub mod Rows
+pub mod Seeing

@@ -1,0 +1,65 @@
+-- The blocks from `m` on hold one that is cheaper at its other end exactly when all of them do.
+use Prim.Native.Nat.{ℕ, _+_, _-_, _≤_, _<_}
+use native.Mathlib.Omega.{arith}
+use mathlib.Core.Path.{_≡_, refl, sym, ap, _∙_}
+use mathlib.Core.Bool.{Bool, not}
+use mathlib.Core.List.{List, []}
+use lib.ListN.{length, getD, drop}
+use Rattle.sequences.specs.Lists.{any, below}
+use Rattle.sequences.proofs.Counting.{length-below, getD-below}
+use Rattle.sequences.proofs.Loops.{any-hit, any-miss, any-end, told}
+use Rattle.walk.specs.Packing.{digits}
+use Rattle.walk.specs.Tables.{Tables, tables, stands}
+use Rattle.walk.proofs.Rows.{cheaperAway}
+use borrow.Author.Needs.{needs}
+use Rattle.walk.proofs.rowtest.stands.Statement.{statement}
+use Rattle.walk.proofs.rowtest.stands.Tie as tie
+use Rattle.walk.proofs.rowtest.stands.Reads as reads
+use Rattle.walk.proofs.rowtest.stands.Lts as lts
+use Rattle.walk.proofs.rowtest.moves.Reads as moves-reads
+
+-- the test of block m
+abbrev t : (own masks pairs : List ℕ) (blocks place : ℕ) → ℕ → Bool
+t own masks pairs blocks place = cheaperAway (tables own [] [] [] masks pairs) (digits blocks place)
+
+abbrev Inv-loop : tie.InvT-loop
+Inv-loop own masks pairs blocks place m₀ m =
+    (m ≤ blocks) × (any (t own masks pairs blocks place) (below blocks) ≡ any (t own masks pairs blocks place) (drop m (below blocks)))
+
+abbrev μ-loop : tie.MeasureT-loop
+μ-loop own masks pairs blocks place m₀ m = blocks - m
+
+loop-holds : tie.Need-loop-holds Inv-loop μ-loop
+loop-holds c = (omega arith, refl)
+
+moves-requires : tie.Need-moves-requires Inv-loop μ-loop
+moves-requires c κs = search needs
+
+returns : tie.Need-returns Inv-loop μ-loop
+returns c = ?
+
+add-m : tie.Need-add-m Inv-loop μ-loop
+add-m c = search needs
+
+loop-less : tie.Need-loop-less Inv-loop μ-loop
+loop-less c = search needs
+
+loop-again : tie.Need-loop-again Inv-loop μ-loop
+loop-again c = ?
+
+returns-2 : tie.Need-returns-2 Inv-loop μ-loop
+returns-2 c = ?
+
+pub stands-spec : {M : Type 1} → statement M
+stands-spec =
+    tie.close
+    (tie.spec
+    Inv-loop
+    μ-loop
+    loop-holds
+    moves-requires
+    returns
+    add-m
+    loop-less
+    loop-again
+    returns-2)
