@@ -7,7 +7,7 @@ use mathlib.Core.List.{List, []}
 use lib.ListN.{length, getD, drop}
 use Rattle.sequences.specs.Lists.{any, below}
 use Rattle.sequences.proofs.Counting.{length-below, getD-below}
-use Rattle.sequences.proofs.Loops.{any-hit, any-miss, any-end, told}
+use Rattle.sequences.proofs.Loops.{any-hit, any-miss, any-end}
 use Rattle.walk.specs.Packing.{digits}
 use Rattle.walk.specs.Tables.{Tables, tables, stands}
 use Rattle.walk.proofs.Rows.{cheaperAway}
@@ -32,11 +32,23 @@ abbrev μ-loop : tie.MeasureT-loop
 loop-holds : tie.Need-loop-holds Inv-loop μ-loop
 loop-holds c = (omega arith, refl)
 
+-- the test that was made is that of the next block
+tested : (c : tie.After-moves Inv-loop μ-loop) → let a = c .before .before .before .args in
+    c .moves .result ≡ t (a .own .now) (a .masks .now) (a .pairs .now) (a .blocks) (a .place) (getD (below (a .blocks)) (c .before .before .loop .m) 0)
+tested c =
+    let a = c .before .before .before .args in
+    c .moves .ensures ∙ ap (t (a .own .now) (a .masks .now) (a .pairs .now) (a .blocks) (a .place)) (sym (getD-below (a .blocks) (c .before .before .loop .m) 0 (omega arith)))
+
 moves-requires : tie.Need-moves-requires Inv-loop μ-loop
 moves-requires c κs = search needs
 
 returns : tie.Need-returns Inv-loop μ-loop
-returns c = ?
+unfolding stands
+returns c =
+    let a = c .before .before .before .before .args in
+    let l = c .before .before .before .loop in
+    sym (ap not (l .inv .1
+    ∙ any-hit (t (a .own .now) (a .masks .now) (a .pairs .now) (a .blocks) (a .place)) (below (a .blocks)) 0 (l .m) (omega (arith, length-below (a .blocks))) (sym (tested (c .before)) ∙ c .if1 .taken)))
 
 add-m : tie.Need-add-m Inv-loop μ-loop
 add-m c = search needs
@@ -45,10 +57,19 @@ loop-less : tie.Need-loop-less Inv-loop μ-loop
 loop-less c = search needs
 
 loop-again : tie.Need-loop-again Inv-loop μ-loop
-loop-again c = ?
+loop-again c =
+    let a = c .before .before .before .before .args in
+    let l = c .before .before .before .loop in
+    (omega arith, l .inv .1
+    ∙ any-miss (t (a .own .now) (a .masks .now) (a .pairs .now) (a .blocks) (a .place)) (below (a .blocks)) 0 (l .m) (omega (arith, length-below (a .blocks))) (sym (tested (c .before)) ∙ c .if1 .left))
 
 returns-2 : tie.Need-returns-2 Inv-loop μ-loop
-returns-2 c = ?
+unfolding stands
+returns-2 c =
+    let a = c .before .before .args in
+    let l = c .before .loop in
+    sym (ap not (l .inv .1
+    ∙ any-end (below (a .blocks)) (l .m) (omega (arith, length-below (a .blocks))) (t (a .own .now) (a .masks .now) (a .pairs .now) (a .blocks) (a .place))))
 
 pub stands-spec : {M : Type 1} → statement M
 stands-spec =
