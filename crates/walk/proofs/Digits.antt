@@ -60,9 +60,9 @@ digits-packFrom m a (k ∷ q) l =
     let e : m + suc (length q) ≡ suc m + length q = omega arith in
     rw e (digits-packFrom (suc m) (a * 8 + k) q (λ i. l (suc i)) ∙ ap (λ d. d ++ q) (digits-snoc m a k (l 0)) ∙ append-assoc (digits m a) (k ∷ []) q)
 
-pub digits-pack : (q : List ℕ) → Low q → digits (length q) (pack q) ≡ q
+pub digits-pack : (n : ℕ) (q : List ℕ) → length q ≡ n → Low q → digits n (pack q) ≡ q
 unfolding digits pack
-digits-pack q l = let e : 0 + length q ≡ length q = omega arith in rw e at (digits-packFrom 0 0 q l)
+digits-pack n q h l = let e : 0 + length q ≡ n = omega arith in rw e at (digits-packFrom 0 0 q l)
 
 -- ---- a digit by its position
 
@@ -78,9 +78,9 @@ digit-at zero d p h = last-digit 0 d p (omega arith)
 digit-at (suc j) d p h = elim (ℕ-discrete d (suc j)) [
   | yes e ↦ last-digit (suc j) d p e
   | no n ↦
-    let z : 3 * (suc j - d) ≡ 3 + 3 * (j - d) = omega arith in
-    rw z (List·getD-append (digits (suc j) (p / 8)) (p % 8 ∷ []) 0 d (omega (arith, digits-length (suc j) (p / 8)))
-    ∙ digit-at j d (p / 8) (omega arith) ∙ ap (λ x. x % 8) (shr-shr p 3 (3 * (j - d))))
+      let z : 3 * (suc j - d) ≡ 3 + 3 * (j - d) = omega arith in
+      rw z (List·getD-append (digits (suc j) (p / 8)) (p % 8 ∷ []) 0 d (omega (arith, digits-length (suc j) (p / 8)))
+      ∙ digit-at j d (p / 8) (omega arith) ∙ ap (λ x. x % 8) (shr-shr p 3 (3 * (j - d))))
 ]
 
 -- the digit of block b
@@ -111,11 +111,9 @@ packFrom-zeros a (suc n) =
     let e : a * 8 + 0 ≡ a * 8 = omega arith in
     packFrom-zeros (a * 8 + 0) n ∙ rw (e, mul-assoc, pow-succ')
 
-pub pack-small : (q : List ℕ) → Low q → pack q < 8 ^ length q
+pub pack-small : (n : ℕ) (q : List ℕ) → length q ≡ n → Low q → pack q < 8 ^ n
 unfolding pack
-pack-small q l =
-    let h = pack-less 0 1 q (replicate (length q) 0) (sym (length-replicate (length q) 0)) l (omega arith) in
-    omega (arith, h, packFrom-zeros 1 (length q))
+pack-small n q e l = omega (arith, pack-less 0 1 q (replicate n 0) (e ∙ sym (length-replicate n 0)) l (omega arith), packFrom-zeros 1 n)
 
 packFrom-before : (a : ℕ) (p q : List ℕ) → length p ≡ length q → Low p → Low q → ltb (packFrom a p) (packFrom a q) ≡ before p q
 packFrom-before a [] [] e l m = le-ltb a a (le-refl a)
@@ -125,10 +123,10 @@ packFrom-before a (x ∷ p) (y ∷ q) e l m = elim (ℕ-discrete x y) [
   | yes h ↦ rw h (simp (le-ltb y y (le-refl y), eq-eqb y y refl) (packFrom-before (a * 8 + y) p q (suc-inj e) (λ i. l (suc i)) (λ i. m (suc i))))
   | no h ↦ elim (decLt x y) [
     | yes u ↦ simp (lt-ltb x y u)
-      (lt-ltb (packFrom (a * 8 + x) p) (packFrom (a * 8 + y) q) (pack-less (a * 8 + x) (a * 8 + y) p q (suc-inj e) (λ i. l (suc i)) (omega arith)))
+        (lt-ltb (packFrom (a * 8 + x) p) (packFrom (a * 8 + y) q) (pack-less (a * 8 + x) (a * 8 + y) p q (suc-inj e) (λ i. l (suc i)) (omega arith)))
     | no u ↦ simp (le-ltb x y (omega arith), ne-eqb x y h)
-      (le-ltb (packFrom (a * 8 + x) p) (packFrom (a * 8 + y) q)
-      (omega (arith, pack-less (a * 8 + y) (a * 8 + x) q p (sym (suc-inj e)) (λ i. m (suc i)) (omega arith))))
+        (le-ltb (packFrom (a * 8 + x) p) (packFrom (a * 8 + y) q)
+        (omega (arith, pack-less (a * 8 + y) (a * 8 + x) q p (sym (suc-inj e)) (λ i. m (suc i)) (omega arith))))
   ]
 ]
 

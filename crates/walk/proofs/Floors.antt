@@ -2,10 +2,10 @@
 use Prim.Native.Nat.{ℕ, zero, suc, _+_, _-_, _*_, _^_, _≤_, _<_}
 use native.Mathlib.Omega.{arith}
 use native.Mathlib.Decide.{ℕ-discrete, decLt}
-use mathlib.Core.Path.{_≡_, refl, sym, ap, _∙_}
+use mathlib.Core.Path.{_≡_, refl, sym, ap}
 use mathlib.Core.Bool.{true, false, not, cond}
 use mathlib.Core.List.{List, [], _∷_, _++_}
-use lib.Dec.{ltb, eqb}
+use lib.Dec.{ltb}
 use lib.ListN.{length, getD, drop, replicate, length-replicate}
 use borrow.Author.Tests.{lt-ltb, le-ltb, eq-eqb, ne-eqb}
 use Rattle.sequences.specs.Lists.{before}
@@ -46,7 +46,7 @@ floor-above a b [] (k ∷ q) l h =
 floor-above a b (x ∷ bytes) (k ∷ q) l h = elim (decLt x 8) [
   | yes u ↦ rw (lt-ltb x 8 u) (floor-above (a * 8 + k) (b * 8 + x) bytes q (λ i. l (suc i)) (omega (arith, l 0)))
   | no u ↦ rw (le-ltb x 8 (omega arith))
-    (pack-less a (b + 1) (k ∷ q) (replicate (suc (length q)) 0) (ap suc (sym (length-replicate (length q) 0))) l (omega arith))
+      (pack-less a (b + 1) (k ∷ q) (replicate (suc (length q)) 0) (ap suc (sym (length-replicate (length q) 0))) l (omega arith))
 ]
 
 floor-after : (a m : ℕ) (bytes q : List ℕ) → length bytes ≡ length q + m → Low q
@@ -57,9 +57,9 @@ floor-after a m bytes [] e l =
 floor-after a m [] (k ∷ q) e l = absurd (omega arith)
 floor-after a m (x ∷ bytes) (k ∷ q) e l = elim (decLt x 8) [
   | no u ↦
-    let low : ltb (packFrom a (k ∷ q)) (packFrom (a + 1) (replicate (suc (length q)) 0)) ≡ true =
-        lt-ltb _ _ (pack-less a (a + 1) (k ∷ q) (replicate (suc (length q)) 0) (ap suc (sym (length-replicate (length q) 0))) l (omega arith)) in
-    simp (le-ltb x 8 (omega arith), le-ltb x k (omega (arith, l 0)), ne-eqb x k (λ f. omega (arith, l 0)), low)
+      let low : ltb (packFrom a (k ∷ q)) (packFrom (a + 1) (replicate (suc (length q)) 0)) ≡ true =
+      lt-ltb _ _ (pack-less a (a + 1) (k ∷ q) (replicate (suc (length q)) 0) (ap suc (sym (length-replicate (length q) 0))) l (omega arith)) in
+      simp (le-ltb x 8 (omega arith), le-ltb x k (omega (arith, l 0)), ne-eqb x k (λ f. omega (arith, l 0)), low)
   | yes u ↦ elim (ℕ-discrete x k) [
     | yes f ↦ rw (f, lt-ltb k 8 (l 0)) (simp (le-ltb k k (omega arith), eq-eqb k k refl) (floor-after (a * 8 + k) m bytes q (omega arith) (λ i. l (suc i))))
     | no f ↦ elim (decLt x k) [
@@ -74,8 +74,8 @@ pub floor-is : (bytes : List ℕ) (n : ℕ) → n ≤ 16 → length bytes ≡ 16
 unfolding pack
 floor-is bytes n h e = record {
   within =
-    let z = length-replicate {A = ℕ} n 0 in
-    omega (arith, rw z at (floor-most 0 1 bytes (replicate n 0) (omega arith)), packFrom-zeros 1 n);
+      let z = length-replicate {A = ℕ} n 0 in
+      omega (arith, rw z at (floor-most 0 1 bytes (replicate n 0) (omega arith)), packFrom-zeros 1 n);
   after = λ q f l. rw (← f) (floor-after 0 (16 - length q) bytes q (omega arith) l);
 }
 

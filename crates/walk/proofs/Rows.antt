@@ -1,14 +1,14 @@
 -- The cases of the row test: a bit is set or not, what decides between two clouds, and which end a datum can move to.
 use Prim.Native.Nat.{ℕ, _+_, _*_, _/_, _%_, _^_, _≤_, _<_}
 use native.Mathlib.Omega.{arith}
-use mathlib.Core.Path.{_≡_, refl, sym, ap, _∙_}
+use mathlib.Core.Path.{_≡_, refl}
 use mathlib.Core.Bool.{Bool, true, false, _&&_, _||_}
 use mathlib.Core.List.{List, [], _∷_}
 use lib.Dec.{ltb, eqb}
 use lib.ListN.{getD}
 use borrow.Author.Tests.{lt-ltb, le-ltb, eq-eqb, ne-eqb}
 use Rattle.sequences.specs.Lists.{before}
-use Rattle.walk.specs.Tables.{Tables, bit, allowed, ownTerm, movesTo, cheaperOn}
+use Rattle.walk.specs.Tables.{Tables, bit, ownTerm, movesTo, cheaperOn}
 
 pub bit-off : (m k : ℕ) → m / 2 ^ k % 2 ≡ 0 → bit m k ≡ false
 unfolding bit

@@ -1,9 +1,8 @@
 -- The cases of `wanted` and `see`.
 use Prim.Native.Nat.{ℕ, _+_, _/_, _%_, _^_, _≤_, _<_}
 use native.Mathlib.Omega.{arith}
-use native.Mathlib.Decide.{ℕ-discrete}
-use mathlib.Core.Path.{_≡_, refl, sym, ap, _∙_}
-use mathlib.Core.Bool.{Bool, true, false, not, _&&_, _||_, cond}
+use mathlib.Core.Path.{_≡_, refl}
+use mathlib.Core.Bool.{Bool, true, false, not, _&&_, _||_}
 use lib.Dec.{ltb, eqb}
 use borrow.Author.Tests.{lt-ltb, le-ltb, eq-eqb, ne-eqb, eqb-true}
 use Rattle.walk.specs.declared.visit.Seen.{Seen}
@@ -50,15 +49,23 @@ module _ (t : Task) (s : Seen) (cost place : ℕ) where
 
 module _ (t : Task) (weight place : ℕ) (row : Bool) (s : Seen) where
   pub breaks-16 : 2 ^ 53 ≤ weight → (weight / 2 ^ 53 % 33 ≡ 0 → ⊥) → see t weight place row s ≡ record {
-    breaking16 = s .breaking16 + 1; breaking17only = s .breaking17only; secure = s .secure; rows = s .rows;
-    cost = s .cost; place = s .place;
+    breaking16 = s .breaking16 + 1;
+    breaking17only = s .breaking17only;
+    secure = s .secure;
+    rows = s .rows;
+    cost = s .cost;
+    place = s .place;
   }
   unfolding see
   breaks-16 h k = simp (le-ltb weight (2 ^ 53) h, ne-eqb (weight / 2 ^ 53 % 33) 0 k)
 
   pub breaks-17 : 2 ^ 53 ≤ weight → weight / 2 ^ 53 % 33 ≡ 0 → see t weight place row s ≡ record {
-    breaking16 = s .breaking16; breaking17only = s .breaking17only + 1; secure = s .secure; rows = s .rows;
-    cost = s .cost; place = s .place;
+    breaking16 = s .breaking16;
+    breaking17only = s .breaking17only + 1;
+    secure = s .secure;
+    rows = s .rows;
+    cost = s .cost;
+    place = s .place;
   }
   unfolding see
   breaks-17 h k = simp (le-ltb weight (2 ^ 53) h, eq-eqb (weight / 2 ^ 53 % 33) 0 k)
@@ -66,30 +73,46 @@ module _ (t : Task) (weight place : ℕ) (row : Bool) (s : Seen) where
   module _ (light : weight < 2 ^ 53) where
     -- nothing is asked of it, or it is no row
     pub unasked : t .counting ≡ false → wanted t s weight place ≡ false → see t weight place row s ≡ record {
-      breaking16 = s .breaking16; breaking17only = s .breaking17only; secure = s .secure + 1; rows = s .rows;
-      cost = s .cost; place = s .place;
+      breaking16 = s .breaking16;
+      breaking17only = s .breaking17only;
+      secure = s .secure + 1;
+      rows = s .rows;
+      cost = s .cost;
+      place = s .place;
     }
     unfolding see
     unasked h k = rw (lt-ltb weight (2 ^ 53) light, h, k)
 
     pub no-row : row ≡ false → see t weight place row s ≡ record {
-      breaking16 = s .breaking16; breaking17only = s .breaking17only; secure = s .secure + 1; rows = s .rows;
-      cost = s .cost; place = s .place;
+      breaking16 = s .breaking16;
+      breaking17only = s .breaking17only;
+      secure = s .secure + 1;
+      rows = s .rows;
+      cost = s .cost;
+      place = s .place;
     }
     unfolding see
     no-row h = rw (lt-ltb weight (2 ^ 53) light, h, and-false (t .counting || wanted t s weight place))
 
     -- a row: the first so far, or one more
     pub first-row : wanted t s weight place ≡ true → row ≡ true → see t weight place row s ≡ record {
-      breaking16 = s .breaking16; breaking17only = s .breaking17only; secure = s .secure + 1; rows = s .rows + 1;
-      cost = weight; place = place;
+      breaking16 = s .breaking16;
+      breaking17only = s .breaking17only;
+      secure = s .secure + 1;
+      rows = s .rows + 1;
+      cost = weight;
+      place = place;
     }
     unfolding see
     first-row h k = rw (lt-ltb weight (2 ^ 53) light, h, k, or-true (t .counting))
 
     pub later-row : t .counting ≡ true → wanted t s weight place ≡ false → row ≡ true → see t weight place row s ≡ record {
-      breaking16 = s .breaking16; breaking17only = s .breaking17only; secure = s .secure + 1; rows = s .rows + 1;
-      cost = s .cost; place = s .place;
+      breaking16 = s .breaking16;
+      breaking17only = s .breaking17only;
+      secure = s .secure + 1;
+      rows = s .rows + 1;
+      cost = s .cost;
+      place = s .place;
     }
     unfolding see
     later-row h k l = rw (lt-ltb weight (2 ^ 53) light, h, k, l)

@@ -28,19 +28,35 @@ see t weight place stands s =
     cond (isSecure weight)
     (cond ((t .counting || wanted t s weight place) && stands)
     (record {
-      breaking16 = s .breaking16; breaking17only = s .breaking17only; secure = s .secure + 1; rows = s .rows + 1;
-      cost = cond (wanted t s weight place) weight (s .cost); place = cond (wanted t s weight place) place (s .place);
+      breaking16 = s .breaking16;
+      breaking17only = s .breaking17only;
+      secure = s .secure + 1;
+      rows = s .rows + 1;
+      cost = cond (wanted t s weight place) weight (s .cost);
+      place = cond (wanted t s weight place) place (s .place);
     })
     (record {
-      breaking16 = s .breaking16; breaking17only = s .breaking17only; secure = s .secure + 1; rows = s .rows;
-      cost = s .cost; place = s .place;
+      breaking16 = s .breaking16;
+      breaking17only = s .breaking17only;
+      secure = s .secure + 1;
+      rows = s .rows;
+      cost = s .cost;
+      place = s .place;
     }))
     (cond (breaks16 weight)
     (record {
-      breaking16 = s .breaking16 + 1; breaking17only = s .breaking17only; secure = s .secure; rows = s .rows;
-      cost = s .cost; place = s .place;
+      breaking16 = s .breaking16 + 1;
+      breaking17only = s .breaking17only;
+      secure = s .secure;
+      rows = s .rows;
+      cost = s .cost;
+      place = s .place;
     })
     (record {
-      breaking16 = s .breaking16; breaking17only = s .breaking17only + 1; secure = s .secure; rows = s .rows;
-      cost = s .cost; place = s .place;
+      breaking16 = s .breaking16;
+      breaking17only = s .breaking17only + 1;
+      secure = s .secure;
+      rows = s .rows;
+      cost = s .cost;
+      place = s .place;
     }))

@@ -2,7 +2,7 @@
 ghost use mathlib.Core.Path.{_≡_};
 ghost use mathlib.Core.Bool.{_&&_};
 ghost use mathlib.Core.List.{[], _∷_};
-ghost use Prim.Native.Nat.{_+_, _*_, _^_, _≤_, _<_};
+ghost use Prim.Native.Nat.{_+_, _*_, _≤_, _<_};
 ghost use lib.ListN.{getD};
 ghost use Rattle.sequences.specs.Lists.{before};
 ghost use Rattle.walk.specs.Packing.{digits};
@@ -33,7 +33,14 @@ fn cheaper(own: &[u64; 128], masks: &[u8; 16], m: usize, here: usize, there: usi
 }
 
 // Block m is a datum that is cheaper at its other end.
-fn moves(own: &[u64; 128], masks: &[u8; 16], pairs: &[u8; 32], blocks: usize, place: u64, m: usize) -> bool
+fn moves(
+    own: &[u64; 128],
+    masks: &[u8; 16],
+    pairs: &[u8; 32],
+    blocks: usize,
+    place: u64,
+    m: usize,
+) -> bool
     requires { ⌜ (blocks ≤ 16) × (m < blocks) ⌝ }
     requires { ⌜ Paired (tables (now own) [] [] [] (now masks) (now pairs)) blocks ⌝ }
     ensures { λ r. ⌜ r ≡ cheaperOn (tables (now (own .entry)) [] [] [] (now (masks .entry)) (now (pairs .entry))) (digits blocks place) m (movesTo (tables (now (own .entry)) [] [] [] (now (masks .entry)) (now (pairs .entry))) (digits blocks place) m) ⌝ }
@@ -58,7 +65,13 @@ fn moves(own: &[u64; 128], masks: &[u8; 16], pairs: &[u8; 32], blocks: usize, pl
     false
 }
 
-pub fn stands(own: &[u64; 128], masks: &[u8; 16], pairs: &[u8; 32], blocks: usize, place: u64) -> bool
+pub fn stands(
+    own: &[u64; 128],
+    masks: &[u8; 16],
+    pairs: &[u8; 32],
+    blocks: usize,
+    place: u64,
+) -> bool
     requires { ⌜ blocks ≤ 16 ⌝ }
     requires { ⌜ Paired (tables (now own) [] [] [] (now masks) (now pairs)) blocks ⌝ }
     ensures { λ r. ⌜ r ≡ stands (tables (now (own .entry)) [] [] [] (now (masks .entry)) (now (pairs .entry))) blocks (digits blocks place) ⌝ }

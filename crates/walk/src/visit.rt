@@ -99,7 +99,16 @@ fn row(seen: Seen, cost: u64, place: u64) -> Seen
 }
 
 // One placement more. The row test is made only where it decides something.
-pub fn visit(own: &[u64; 128], masks: &[u8; 16], pairs: &[u8; 32], blocks: usize, task: Task, weight: u64, place: u64, seen: Seen) -> Seen
+pub fn visit(
+    own: &[u64; 128],
+    masks: &[u8; 16],
+    pairs: &[u8; 32],
+    blocks: usize,
+    task: Task,
+    weight: u64,
+    place: u64,
+    seen: Seen,
+) -> Seen
     requires { ⌜ (blocks ≤ 16) × (place < 8 ^ blocks) ⌝ }
     requires { ⌜ Paired (tables (now own) [] [] [] (now masks) (now pairs)) blocks ⌝ }
     requires { ⌜ (seen .breaking16 < 2 ^ 60) × (seen .breaking17only < 2 ^ 60) × (seen .secure < 2 ^ 60) × (seen .rows < 2 ^ 60) ⌝ }

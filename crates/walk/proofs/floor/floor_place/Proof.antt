@@ -1,18 +1,15 @@
 -- The floor of all bytes is the floor of those from `b` on, with those before them packed.
-use Prim.Native.Nat.{_+_, _-_, _*_, _^_, _≤_, _<_}
+use Prim.Native.Nat.{_+_, _-_, _^_, _≤_, _<_}
 use native.Mathlib.Nat.{pow-suc, pow-le-pow-right, mod-eq-of-lt}
 use native.Mathlib.Numerals.{add-one}
 use native.Mathlib.Omega.{arith}
-use mathlib.Core.Path.{_≡_, refl, sym, ap, _∙_}
-use lib.ListN.{length, getD, drop}
-use Rattle.walk.specs.Floors.{FloorOf}
+use mathlib.Core.Path.{_≡_, refl, _∙_}
+use lib.ListN.{length, drop}
 use Rattle.walk.proofs.Digits.{place-small}
 use Rattle.walk.proofs.Floors.{floorFrom, floor-is, floor-next, floor-stop}
 use borrow.Author.Needs.{needs}
 use Rattle.walk.proofs.floor.floor_place.Statement.{statement}
 use Rattle.walk.proofs.floor.floor_place.Tie as tie
-use Rattle.walk.proofs.floor.floor_place.Reads as reads
-use Rattle.walk.proofs.floor.floor_place.Lts as lts
 
 abbrev Inv-loop : tie.InvT-loop
 Inv-loop blocks bytes packed₀ b₀ packed b =

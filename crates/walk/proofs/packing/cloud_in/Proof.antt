@@ -5,8 +5,6 @@ use Rattle.walk.proofs.Digits.{digit}
 use borrow.Author.Needs.{needs}
 use Rattle.walk.proofs.packing.cloud_in.Statement.{statement}
 use Rattle.walk.proofs.packing.cloud_in.Tie as tie
-use Rattle.walk.proofs.packing.cloud_in.Reads as reads
-use Rattle.walk.proofs.packing.cloud_in.Lts as lts
 
 sub-result : tie.Need-sub-result
 sub-result c = search needs

@@ -1,18 +1,15 @@
 -- The clouds below `b` are stored, and zeros stand from there on.
-use Prim.Native.Nat.{_+_, _-_, _≤_, _<_}
+use Prim.Native.Nat.{_+_, _-_, _≤_}
 use native.Mathlib.Omega.{arith}
-use mathlib.Core.Path.{_≡_, refl, sym, ap, _∙_}
+use mathlib.Core.Path.{_≡_, refl, ap, _∙_}
 use mathlib.Core.List.{_++_}
-use lib.ListN.{length, getD, take, replicate}
+use lib.ListN.{take, replicate}
 use lib.Seq.{take-all}
 use Rattle.walk.specs.Packing.{digits}
 use Rattle.walk.proofs.Digits.{digits-length, fill-next}
 use borrow.Author.Needs.{needs}
 use Rattle.walk.proofs.packing.unpacked.Statement.{statement}
 use Rattle.walk.proofs.packing.unpacked.Tie as tie
-use Rattle.walk.proofs.packing.unpacked.Reads as reads
-use Rattle.walk.proofs.packing.unpacked.Lts as lts
-use Rattle.walk.proofs.packing.cloud_in.Reads as cloud-in-reads
 
 abbrev Inv-loop : tie.InvT-loop
 Inv-loop place blocks clouds₀ b₀ clouds b = (b ≤ blocks) × (clouds ≡ take b (digits blocks place) ++ replicate (16 - b) 0)

@@ -8,9 +8,6 @@ use Rattle.walk.proofs.Rows.{bit-off, bit-on, pairs-tie, pairs-differ}
 use borrow.Author.Needs.{needs}
 use Rattle.walk.proofs.rowtest.cheaper.Statement.{statement}
 use Rattle.walk.proofs.rowtest.cheaper.Tie as tie
-use Rattle.walk.proofs.rowtest.cheaper.Reads as reads
-use Rattle.walk.proofs.rowtest.cheaper.Lts as lts
-use Rattle.walk.proofs.rowtest.wide.Reads as wide-reads
 
 may-stand : (c : tie.Else1) → let a = c .before .before .before .args in bit (getD (a .masks .now) (a .m) 0) (a .there) ≡ true
 may-stand c =

@@ -10,11 +10,6 @@ use Rattle.walk.proofs.Rows.{unpaired, together, at-writer, at-reader, 
 use borrow.Author.Needs.{needs}
 use Rattle.walk.proofs.rowtest.moves.Statement.{statement}
 use Rattle.walk.proofs.rowtest.moves.Tie as tie
-use Rattle.walk.proofs.rowtest.moves.Reads as reads
-use Rattle.walk.proofs.rowtest.moves.Lts as lts
-use Rattle.walk.proofs.packing.cloud_in.Reads as cloud-in-reads
-use Rattle.walk.proofs.rowtest.cheaper.Reads as cheaper-reads
-use Rattle.walk.proofs.rowtest.wide.Reads as wide-reads
 
 abbrev T : tie.Start → Tables
 T s = tables (s .args .own .now) [] [] [] (s .args .masks .now) (s .args .pairs .now)

@@ -1,22 +1,19 @@
 -- The blocks from `m` on hold one that is cheaper at its other end exactly when all of them do.
-use Prim.Native.Nat.{ℕ, _+_, _-_, _≤_, _<_}
+use Prim.Native.Nat.{ℕ, _-_, _≤_}
 use native.Mathlib.Omega.{arith}
 use mathlib.Core.Path.{_≡_, refl, sym, ap, _∙_}
 use mathlib.Core.Bool.{Bool, not}
 use mathlib.Core.List.{List, []}
-use lib.ListN.{length, getD, drop}
+use lib.ListN.{getD, drop}
 use Rattle.sequences.specs.Lists.{any, below}
 use Rattle.sequences.proofs.Counting.{length-below, getD-below}
 use Rattle.sequences.proofs.Loops.{any-hit, any-miss, any-end}
 use Rattle.walk.specs.Packing.{digits}
-use Rattle.walk.specs.Tables.{Tables, tables, stands}
+use Rattle.walk.specs.Tables.{tables, stands}
 use Rattle.walk.proofs.Rows.{cheaperAway}
 use borrow.Author.Needs.{needs}
 use Rattle.walk.proofs.rowtest.stands.Statement.{statement}
 use Rattle.walk.proofs.rowtest.stands.Tie as tie
-use Rattle.walk.proofs.rowtest.stands.Reads as reads
-use Rattle.walk.proofs.rowtest.stands.Lts as lts
-use Rattle.walk.proofs.rowtest.moves.Reads as moves-reads
 
 -- the test of block m
 abbrev t : (own masks pairs : List ℕ) (blocks place : ℕ) → ℕ → Bool
@@ -59,9 +56,11 @@ loop-less c = search needs
 loop-again : tie.Need-loop-again Inv-loop μ-loop
 loop-again c =
     let a = c .before .before .before .before .args in
-    let l = c .before .before .before .loop in
-    (omega arith, l .inv .1
-    ∙ any-miss (t (a .own .now) (a .masks .now) (a .pairs .now) (a .blocks) (a .place)) (below (a .blocks)) 0 (l .m) (omega (arith, length-below (a .blocks))) (sym (tested (c .before)) ∙ c .if1 .left))
+    let l = c .before .before .before .loop in (
+      omega arith,
+      l .inv .1
+          ∙ any-miss (t (a .own .now) (a .masks .now) (a .pairs .now) (a .blocks) (a .place)) (below (a .blocks)) 0 (l .m) (omega (arith, length-below (a .blocks))) (sym (tested (c .before)) ∙ c .if1 .left),
+    )
 
 returns-2 : tie.Need-returns-2 Inv-loop μ-loop
 unfolding stands

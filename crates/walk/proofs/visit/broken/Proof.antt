@@ -4,8 +4,6 @@ use Rattle.walk.proofs.Seeing.{breaks-16, breaks-17}
 use borrow.Author.Needs.{needs}
 use Rattle.walk.proofs.visit.broken.Statement.{statement}
 use Rattle.walk.proofs.visit.broken.Tie as tie
-use Rattle.walk.proofs.visit.broken.Reads as reads
-use Rattle.walk.proofs.visit.broken.Lts as lts
 
 add-b17 : tie.Need-add-b17
 add-b17 c = search needs

@@ -7,8 +7,6 @@ use Rattle.walk.specs.Visiting.{earlier}
 use Rattle.walk.proofs.Seeing.{not-earlier, earlier-cost, earlier-place, earlier-tie, too-early, no-better, past-floor}
 use Rattle.walk.proofs.visit.is_wanted.Statement.{statement}
 use Rattle.walk.proofs.visit.is_wanted.Tie as tie
-use Rattle.walk.proofs.visit.is_wanted.Reads as reads
-use Rattle.walk.proofs.visit.is_wanted.Lts as lts
 
 passed : (c : tie.Joined3) → let a = c .before .before .before .before .before .before .args in
     earlier (a .cost) (a .place) (a .task .cost) (a .task .place) ≡ false
