@@ -1,3 +1,4 @@
+pub mod Floors
 pub mod Packing
 pub mod Tables
 pub mod Visiting
