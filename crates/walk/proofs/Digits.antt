@@ -162,3 +162,7 @@ fill-next l b h k =
     rw e (set-at (take b l) 0 (replicate (16 - (b + 1)) 0) (getD l b 0) b (length-take-le b l (omega arith))
     ∙ sym (append-assoc (take b l) (getD l b 0 ∷ []) (replicate (16 - (b + 1)) 0))
     ∙ ap (λ x. x ++ replicate (16 - (b + 1)) 0) (sym (ap (λ n. take n l) (add-one b) ∙ take-suc l b 0 h)))
+
+-- the same, of one block more than k
+pub digit-below : (k d p : ℕ) → d ≤ k → getD (digits (suc k) p) d 0 ≡ p / 2 ^ (3 * (k - d)) % 8
+digit-below k d p h = let e : suc k - 1 - d ≡ k - d = omega arith in digit (suc k) d p (omega arith) ∙ (rw e refl)

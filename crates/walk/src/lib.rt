@@ -5,3 +5,4 @@ pub mod floor;
 pub mod packing;
 pub mod rowtest;
 pub mod visit;
+pub mod walk;
