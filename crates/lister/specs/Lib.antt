@@ -1,4 +1,5 @@
 pub mod Answers
+pub mod Building
 pub mod Calls
 pub mod Interview
 pub mod ItemThree
