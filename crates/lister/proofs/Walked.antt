@@ -26,7 +26,7 @@ use Rattle.lister.specs.declared.Row.{Row}
 use Rattle.lister.specs.declared.Cursor.{Cursor}
 use Rattle.lister.specs.Joining.{Joined, met, padded}
 use Rattle.lister.specs.Rows.{census, securePlacements, earlier, rowOf, rows, stands, later, draw}
-use Rattle.lister.proofs.Census.{options-number, rows-length}
+use Rattle.lister.proofs.Counting.{options-number, rows-length}
 use Rattle.lister.proofs.Drawing.{draw-walks}
 use Rattle.sequences.specs.Draws.{betterIf, beats}
 use Rattle.sequences.specs.Lists.{keep, before}

@@ -8,19 +8,23 @@ use Rattle.lister.specs.declared.Answer.the-variants.{Found, Finished, R
 use Rattle.lister.specs.declared.Counted.{Counted}
 use Rattle.lister.specs.declared.Counted.the-variants.{Counts, Refused as Uncounted}
 use Rattle.lister.specs.declared.Drawn.{Drawn}
+use Rattle.lister.specs.declared.Figures.{Figures}
 use Rattle.lister.specs.declared.Row.{Row}
 use Rattle.lister.specs.Rows.{Census}
 use Rattle.sequences.specs.Results.{Result, ok, refused}
 
 -- Census: the five counts, or a refusal with its number and place
-abbrev pub censusAnswer : Counted → Result Census
-censusAnswer (Counts c) = ok (record {
+abbrev pub figuresOf : Figures → Census
+figuresOf c = record {
   candidates = c .candidates;
   breaking16 = c .breaking16;
   breaking17only = c .breaking17only;
   secure = c .secure;
   options = c .options;
-})
+}
+
+abbrev pub censusAnswer : Counted → Result Census
+censusAnswer (Counts c) = ok (figuresOf c)
 censusAnswer (Uncounted r) = refused (r .number) (r .place)
 
 -- Draw: the row beside the answer, finished, or a refusal with its number and place

@@ -5,3 +5,4 @@ pub mod Interview
 pub mod ItemThree
 pub mod Joining
 pub mod Rows
+pub mod Seeing
