@@ -1,3 +1,4 @@
+pub mod Building
 pub mod Calls
 pub mod Interview
 pub mod ItemThree

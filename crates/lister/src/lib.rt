@@ -14,3 +14,5 @@ pub struct Cursor {
     pub cost: u64,
     pub placement: [u8; 16],
 }
+
+pub mod tables;
