@@ -1,7 +1,13 @@
 pub mod Bits
+pub mod Built
 pub mod Census
 pub mod Drawing
 pub mod Filling
 pub mod Groups
+pub mod Indexing
 pub mod Interview
+pub mod Ordering
+pub mod Paired
 pub mod RowOrder
+pub mod Scanning
+pub mod Small

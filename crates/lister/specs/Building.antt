@@ -53,6 +53,9 @@ lateIn d n = later (edge d n)
 abbrev pub lateAt : Description → (n i : ℕ) → ℕ
 lateAt d n i = cond (ltb i n) (lateIn d i) 255
 
+unfoldable pub lateEnds : Description → List ℕ
+lateEnds d = table 32 (lateAt d (length (d .edges)))
+
 -- how many edges have a later end below k
 abbrev pub edgesBefore : Description → ℕ → ℕ
 edgesBefore d k = length (keep (λ n. ltb (lateIn d n) k) (below (length (d .edges))))
@@ -111,8 +114,11 @@ onlyOf [] = 255
 onlyOf (e ∷ es) = alone (e .service) es
 
 -- the edges of datum m of one kind: its writers, its readers
+abbrev pub isOf : Way → ℕ → Edge → Bool
+isOf way m e = sameWay way (e .way) && eqb (e .datum) m
+
 abbrev pub edgesOf : Description → Way → ℕ → List Edge
-edgesOf d way m = keep (λ e. sameWay way (e .way) && eqb (e .datum) m) (d .edges)
+edgesOf d way m = keep (isOf way m) (d .edges)
 
 abbrev pub only : Description → Way → ℕ → ℕ
 only d way m = onlyOf (edgesOf d way m)
@@ -122,8 +128,11 @@ abbrev pub ofPair : (a b : ℕ) → ℕ → ℕ
 ofPair a b zero = cond (eqb a 255 || eqb b 255) 255 a
 ofPair a b (suc i) = cond (eqb a 255 || eqb b 255) 255 b
 
+abbrev pub pairAt : Description → ℕ → ℕ
+pairAt d i = ofPair (only d Writes (i / 2)) (only d Reads (i / 2)) (i % 2)
+
 unfoldable pub pairsOf : Description → List ℕ
-pairsOf d = table 32 (λ i. ofPair (only d Writes (i / 2)) (only d Reads (i / 2)) (i % 2))
+pairsOf d = table 32 (pairAt d)
 
 -- ---- all of them
 

@@ -72,6 +72,11 @@ module _ (t : Tables) where
   unfoldable pub stands : ℕ → List ℕ → Bool
   stands n q = not (any (λ m. cheaperOn q m (movesTo q m)) (below n))
 
+  -- What the row test asks of the tables of n blocks.
+  pub record Paired (n : ℕ) : Type 0 where
+    -- writers and readers are blocks
+    pub pairsSmall : (m : ℕ) → m < n → getD (t .pairs) (2 * m) 0 < 16 → (getD (t .pairs) (2 * m) 0 < n) × (getD (t .pairs) (2 * m + 1) 0 < n)
+
   -- What the walk asks of the tables of n blocks.
   pub record Ready (n : ℕ) : Type 0 where
     pub few : n ≤ 16
@@ -84,5 +89,4 @@ module _ (t : Tables) where
     -- a block's term is below 2^49, an edge's at most 33 · 2^53 and a little, so that no weight reaches 2^64
     pub ownSmall : (i : ℕ) → getD (t .own) i 0 < 2 ^ 49
     pub termsSmall : (i : ℕ) → getD (t .terms) i 0 < 34 * 2 ^ 53
-    -- writers and readers are blocks
-    pub pairsSmall : (m : ℕ) → m < n → getD (t .pairs) (2 * m) 0 < 16 → (getD (t .pairs) (2 * m) 0 < n) × (getD (t .pairs) (2 * m + 1) 0 < n)
+    pub paired : Paired n
