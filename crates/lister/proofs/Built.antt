@@ -1,29 +1,30 @@
 -- The tables of a well-formed description: they are what the walk asks for, a placement weighs by them what it weighs by the
 -- description, and the placements by them are the candidates.
-use Prim.Native.Nat.{ℕ, zero, suc, _+_, _-_, _*_, _/_, _%_, _^_, _≤_, _<_, zero-le}
+use Prim.Native.Nat.{ℕ, _+_, _-_, _*_, _/_, _%_, _^_, _≤_, _<_}
 use native.Mathlib.Nat.{zero-add}
-use native.Mathlib.Decide.{decLt}
 use native.Mathlib.Omega.{arith}
 use mathlib.Core.Path.{_≡_, refl, sym, ap, ap₂, _∙_}
-use mathlib.Core.Bool.{Bool, true, false, not, _&&_, cond}
-use mathlib.Core.List.{List, [], _∷_, _++_, map}
-use lib.Dec.{ltb, eqb, lit<}
-use lib.ListN.{length, getD, replicate}
+use mathlib.Core.Bool.{Bool, true, false, not, cond}
+use mathlib.Core.List.{List, [], _∷_, _++_, map, List·Memᴰ}
+use lib.Dec.{ltb, lit<}
+use lib.ListN.{length, getD, length-map}
 use borrow.Author.Tests.{lt-ltb, le-ltb, ltb-true, ltb-false}
 use Rattle.description.specs.declared.workflow.Edge.{Edge}
-use Rattle.description.specs.Format.{Description, noEdge, edge, block, cloud, isDatum, namesBlock, namesService, namesDatum}
+use Rattle.description.specs.Format.{Description, noEdge, edge, block, isDatum, namesBlock}
 use Rattle.description.specs.Invariants.{WellFormed, InRange}
-use Rattle.rules.specs.Soundness.{mayStand, candidates, positions}
+use Rattle.rules.specs.Soundness.{mayStand, candidates}
 use Rattle.rules.specs.Placements.{serviceCloud, datumCloud}
 use Rattle.rules.specs.Terms.{blockTerm, edgeTerm, weightOf}
 use Rattle.rules.proofs.Candidates.{candidates-choices}
-use Rattle.sequences.specs.Lists.{from, below, keep, sum, sequences, prefixed}
+use Rattle.sequences.specs.Lists.{from, below, keep, sum, sequences}
+use Rattle.sequences.proofs.Choices.{sequences-members}
 use Rattle.sequences.proofs.Counting.{length-below}
+use Rattle.sequences.proofs.Members.{keep-members, below-members, getD-map}
 use Rattle.sequences.proofs.Numbers.{kept-most}
 use Rattle.sequences.proofs.Positions.{everywhere}
 use Rattle.sequences.proofs.Tests.{both-pass, cond-ind}
-use Rattle.walk.specs.Tables.{Tables, allowed, bit, placements, ownTerm, edgeTerm as termIn, start, weight, Paired, Ready}
-use Rattle.lister.specs.Building.{table, maskOf, masksOf, ownOf, later, other, lateIn, edgesBefore, startsOf, orderOf, edgeIn, endOf, endsOf, termOf, termsOf, tablesOf, padded, joined, group}
+use Rattle.walk.specs.Tables.{tables, allowed, bit, placements, ownTerm, edgeTerm as termIn, start, weight, Ready}
+use Rattle.lister.specs.Building.{maskOf, masksOf, ownOf, later, other, lateIn, edgesBefore, startsOf, orderOf, edgeIn, endOf, endsOf, termOf, termsOf, pairsOf, tablesOf, padded, joined, group}
 use Rattle.lister.proofs.Bits.{bit-bits}
 use Rattle.lister.proofs.Filling.{getD-table, table-all}
 use Rattle.lister.proofs.Groups.{keep-all, keep-cut, from-split, map-append, joined-grows, joined-count, regroup}
@@ -90,6 +91,12 @@ module _ (d : Description) where
   term-is q low i h =
       rw (first-end i h, second-end i h)
       (entry-is i (getD q (later (edgeIn d i)) 0) (getD q (other (edgeIn d i)) 0) h (low _) (low _) ∙ turned (edgeIn d i) q)
+
+-- tables that are each those of the description
+pub tables-are : (d : Description) {own terms ends starts masks pairs : List ℕ} → own ≡ ownOf d → terms ≡ termsOf d → ends ≡ endsOf d → starts ≡ startsOf d
+    → masks ≡ masksOf d → pairs ≡ pairsOf d → tables own terms ends starts masks pairs ≡ tablesOf d
+unfolding tablesOf
+tables-are d a b c e f g = cc
 
 -- the other end is not behind the later one
 other-least : (e : Edge) → other e ≤ later e
@@ -219,6 +226,23 @@ module _ (d : Description) (wf : WellFormed d) where
       ap₂ _++_ (map-below choices (λ b. keep (allowed (tablesOf d) b) (below (length (d .clouds)))) n choices-are)
       (map-constant choices (0 ∷ []) (0 + n) z (λ b l. no-choice b (omega arith)))) ∙
       sequences-padded z (map (λ b. keep (allowed (tablesOf d) b) (below (length (d .clouds)))) (below n)))
+
+  -- a placement by the tables has a cloud below 8 for each block
+  pub placement-low : (q : List ℕ) → List·Memᴰ q (placements (tablesOf d) (length (d .clouds)) (length (d .blocks)))
+      → (length q ≡ length (d .blocks)) × ((b : ℕ) → getD q b 0 < 8)
+  unfolding placements
+  placement-low q m =
+      let n = length (d .blocks) in
+      let choices : ℕ → List ℕ = λ b. keep (allowed (tablesOf d) b) (below (length (d .clouds))) in
+      let (size, at) = sequences-members 0 (map choices (below n)) q .0 m in
+      let count : length (map choices (below n)) ≡ n = length-map (below n) choices ∙ length-below n in (
+        size ∙ count,
+        everywhere (λ (x : ℕ). x < 8) 0 q (omega arith) (λ b h.
+            let inside : b < length (below n) = omega (arith, size, count, length-below n) in
+            let chosen = rw (getD-map choices (below n) b 0 [] inside) at (at b (omega (arith, size))) in
+            let k = below-members (length (d .clouds)) (getD q b 0) .0 (keep-members (allowed (tablesOf d) (getD (below n) b 0)) (below (length (d .clouds))) (getD q b 0) .0 chosen .0) in
+            omega (arith, wf .limits .clouds)),
+      )
 
   -- ---- what the walk asks
 

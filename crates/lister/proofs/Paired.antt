@@ -1,5 +1,5 @@
 -- The data between one writer and one reader: their two services are blocks.
-use Prim.Native.Nat.{ℕ, zero, suc, _+_, _*_, _/_, _%_, _≤_, _<_}
+use Prim.Native.Nat.{ℕ, zero, suc, _+_, _*_, _/_, _%_, _<_}
 use native.Mathlib.Omega.{arith}
 use mathlib.Core.Path.{_≡_, refl, sym, ap, ap₂, _∙_}
 use mathlib.Core.Logic.{_⊎_, inl, inr, ⊎-elim}
@@ -17,7 +17,7 @@ use Rattle.rules.specs.Options.{writersOf, readersOf}
 use Rattle.sequences.specs.Lists.{keep}
 use Rattle.sequences.proofs.Tests.{both-pass, cond-ind}
 use Rattle.walk.specs.Tables.{Paired}
-use Rattle.lister.specs.Building.{isOf, alone, onlyOf, only, ofPair, pairAt, pairsOf, tablesOf}
+use Rattle.lister.specs.Building.{isOf, onlyOf, only, ofPair, pairAt, pairsOf, tablesOf}
 use Rattle.lister.proofs.Filling.{getD-table}
 
 -- P holds of each element
@@ -49,6 +49,7 @@ pair-none a b r h = go r (⊎-elim (λ p. inl (eq-eqb a 255 p)) (λ p. inr (eq-e
     none false true x k = refl
     none false false x (inl k) = let z : _≡_ {A = ℕ} 0 1 = cc in absurd (omega arith)
     none false false x (inr k) = let z : _≡_ {A = ℕ} 0 1 = cc in absurd (omega arith)
+
     go : (r : ℕ) → (eqb a 255 ≡ true) ⊎ (eqb b 255 ≡ true) → ofPair a b r ≡ 255
     go zero k = none (eqb a 255) (eqb b 255) a k
     go (suc r) k = none (eqb a 255) (eqb b 255) b k
@@ -75,6 +76,14 @@ both-low n a b (inr p) (inr h) l = go (eqb a 255 || eqb b 255) l
     go true k = absurd (omega arith)
     go false k = (p, h)
 
+-- of two lists that are not one edge each, one has 255
+either : (es fs : List Edge) → ((e f : Edge) → es ≡ e ∷ [] → fs ≡ f ∷ [] → ⊥) → (onlyOf es ≡ 255) ⊎ (onlyOf fs ≡ 255)
+either [] fs h = inl refl
+either (e ∷ e' ∷ es) fs h = inl refl
+either (e ∷ []) [] h = inr refl
+either (e ∷ []) (f ∷ f' ∷ fs) h = inr refl
+either (e ∷ []) (f ∷ []) h = absurd (h e f refl refl)
+
 module _ (d : Description) (wf : WellFormed d) where
   services-low : Every (λ (e : Edge). e .service < length (d .blocks)) (d .edges)
   services-low = every-at (λ (e : Edge). e .service < length (d .blocks)) noEdge (d .edges) (λ i h.
@@ -97,6 +106,33 @@ module _ (d : Description) (wf : WellFormed d) where
       let q : (2 * m + 1) / 2 ≡ m = omega arith in
       let r : (2 * m + 1) % 2 ≡ 1 = omega arith in
       getD-table 32 (pairAt d) (2 * m + 1) (omega arith) ∙ ap₂ (λ (a b : ℕ). ofPair (only d Writes a) (only d Reads a) b) q r
+
+  -- a service of an edge is not 255
+  service-low : (way : Way) (m : ℕ) (e : Edge) → keep (isOf way m) (d .edges) ≡ e ∷ [] → e .service ≡ 255 → ⊥
+  service-low way m e k h =
+      let p = every-kept (λ (f : Edge). f .service < length (d .blocks)) (isOf way m) (d .edges) services-low in
+      let l : e .service < length (d .blocks) = (rw k at p) .0 in
+      omega (arith, wf .limits .blocks)
+
+  -- The entries of datum m: the services of its writer and of its reader, where it has one of each; else 255.
+  pub pair-is : (m : ℕ) → m < 16 → (e f : Edge) → writersOf d m ≡ e ∷ [] → readersOf d m ≡ f ∷ []
+      → (getD (tablesOf d .pairs) (2 * m) 0 ≡ e .service) × (getD (tablesOf d .pairs) (2 * m + 1) 0 ≡ f .service)
+  pair-is m l e f writer reader =
+      let a : only d Writes m ≡ e .service = ap onlyOf writer in
+      let b : only d Reads m ≡ f .service = ap onlyOf reader in
+      let low-a : only d Writes m ≡ 255 → ⊥ = λ p. service-low Writes m e writer (sym a ∙ p) in
+      let low-b : only d Reads m ≡ 255 → ⊥ = λ p. service-low Reads m f reader (sym b ∙ p) in (
+        first-of-pair m l ∙ pair-first (only d Writes m) (only d Reads m) low-a low-b ∙ a,
+        second-of-pair m l ∙ pair-second (only d Writes m) (only d Reads m) low-a low-b ∙ b,
+      )
+
+  pub no-pair : (m : ℕ) → m < 16 → ((e f : Edge) → writersOf d m ≡ e ∷ [] → readersOf d m ≡ f ∷ [] → ⊥)
+      → (getD (tablesOf d .pairs) (2 * m) 0 ≡ 255) × (getD (tablesOf d .pairs) (2 * m + 1) 0 ≡ 255)
+  no-pair m l h =
+      let one = either (writersOf d m) (readersOf d m) h in (
+        first-of-pair m l ∙ pair-none (only d Writes m) (only d Reads m) 0 one,
+        second-of-pair m l ∙ pair-none (only d Writes m) (only d Reads m) 1 one,
+      )
 
   -- writers and readers are blocks
   pub paired : Paired (tablesOf d) (length (d .blocks))

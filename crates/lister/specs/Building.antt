@@ -53,6 +53,7 @@ lateIn d n = later (edge d n)
 abbrev pub lateAt : Description → (n i : ℕ) → ℕ
 lateAt d n i = cond (ltb i n) (lateIn d i) 255
 
+-- as an array
 unfoldable pub lateEnds : Description → List ℕ
 lateEnds d = table 32 (lateAt d (length (d .edges)))
 
@@ -72,7 +73,7 @@ joined g (suc n) = joined g n ++ g n
 abbrev pub group : (ℕ → ℕ) → (n k : ℕ) → List ℕ
 group late n k = keep (λ e. eqb (late e) k) (below n)
 
--- the same for k from 0 to 15, gone through for at most 32 numbers
+-- the groups of 32 numbers for k from 0 to 15, as code goes through them: step j is number j % 32 for k = j / 32
 unfoldable pub scanned : (ℕ → ℕ) → List ℕ
 scanned late = map (λ j. j % 32) (keep (λ j. eqb (late (j % 32)) (j / 32)) (below 512))
 
@@ -104,22 +105,24 @@ termsOf d = table 2048 (λ i. termOf d (edgeIn d (i / 64)) (i / 8 % 8) (i % 8))
 
 -- ---- data between one writer and one reader
 
--- the service of the only edge; 255 where there is none or there are more: v behind one more edge, whose service is v
+-- v, the service of an edge, where no others come behind it
 abbrev pub alone : ℕ → List Edge → ℕ
 alone v [] = v
 alone v (e ∷ es) = 255
 
+-- the service of the only edge; 255 where there is none or there are more
 abbrev pub onlyOf : List Edge → ℕ
 onlyOf [] = 255
 onlyOf (e ∷ es) = alone (e .service) es
 
--- the edges of datum m of one kind: its writers, its readers
+-- an edge reads, or writes, datum m; those edges
 abbrev pub isOf : Way → ℕ → Edge → Bool
 isOf way m e = sameWay way (e .way) && eqb (e .datum) m
 
 abbrev pub edgesOf : Description → Way → ℕ → List Edge
 edgesOf d way m = keep (isOf way m) (d .edges)
 
+-- the only service that reads, or writes, datum m
 abbrev pub only : Description → Way → ℕ → ℕ
 only d way m = onlyOf (edgesOf d way m)
 
