@@ -1,8 +1,17 @@
+pub mod Bits
+pub mod Built
 pub mod Counting
 pub mod Cursors
 pub mod Drawing
+pub mod Filling
+pub mod Groups
+pub mod Indexing
 pub mod Interview
 pub mod Joins
+pub mod Ordering
+pub mod Paired
 pub mod RowOrder
 pub mod RowTest
+pub mod Scanning
+pub mod Small
 pub mod Walked

@@ -2,7 +2,7 @@
 use Prim.Native.Nat.{ℕ, _≤_, _<_}
 use native.Mathlib.Decide.{decLt}
 use native.Mathlib.Omega.{arith}
-use mathlib.Core.Path.{_≡_, ap, subst⁻¹, _∙_}
+use mathlib.Core.Path.{_≡_, refl, ap, subst⁻¹, _∙_}
 use mathlib.Core.Logic.{_↔_, Iff·trans}
 use mathlib.Core.List.{List, [], map, List·Memᴰ, Memᴰ·of-map}
 use lib.Dec.{ltb}
@@ -14,7 +14,7 @@ use Rattle.rules.specs.Statements.{Good, Placed}
 use Rattle.rules.proofs.Deciding.{may-stand, position-at}
 use Rattle.rules.proofs.Judging.{never-13}
 use Rattle.sequences.specs.Ascending.{Ascending, Once}
-use Rattle.sequences.specs.Lists.{below, before, product}
+use Rattle.sequences.specs.Lists.{keep, below, before, sequences, product}
 use Rattle.sequences.specs.Results.{refused}
 use Rattle.sequences.proofs.Ascending.{keep-ascends, from-ascends}
 use Rattle.sequences.proofs.Choices.{length-sequences, sequences-members, sequences-ascend, sequences-once}
@@ -77,3 +77,8 @@ candidates-ascend d = sequences-ascend (map (choicesOf d) positions) (choices-as
 pub candidates-once : (d : Description) → Once (candidates d)
 unfolding candidates
 candidates-once d = sequences-once (map (choicesOf d) positions) (choices-ascend d)
+
+-- the candidates are the choices of one cloud for each of the sixteen positions, and a position's clouds those below 8 that it may have
+pub candidates-choices : (d : Description) → candidates d ≡ sequences (map (λ b. keep (mayStand d b) (below 8)) positions)
+unfolding candidates choicesOf
+candidates-choices d = refl
