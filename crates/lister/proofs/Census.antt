@@ -7,7 +7,7 @@ use Rattle.description.specs.Format.{Description}
 use Rattle.rules.specs.Soundness.{candidates}
 use Rattle.rules.specs.Placements.{broken16, broken17}
 use Rattle.rules.specs.Options.{sameOption}
-use Rattle.rules.proofs.SameOption.{sameOption-equivalence}
+use Rattle.rules.proofs.Options.{sameOption-equivalence}
 use Rattle.lister.specs.Rows.{securePlacements, census, earlier, rowOf, stands, rows}
 use Rattle.lister.proofs.Drawing.{secure-once}
 use Rattle.lister.proofs.RowOrder.{earlier-order, rowOf-apart}

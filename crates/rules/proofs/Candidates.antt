@@ -14,7 +14,7 @@ use Rattle.rules.specs.Statements.{Good, Placed}
 use Rattle.rules.proofs.Deciding.{may-stand, position-at}
 use Rattle.rules.proofs.Judging.{never-13}
 use Rattle.sequences.specs.Ascending.{Ascending, Once}
-use Rattle.sequences.specs.Lists.{below, before, product}
+use Rattle.sequences.specs.Lists.{below, before}
 use Rattle.sequences.specs.Results.{refused}
 use Rattle.sequences.proofs.Ascending.{keep-ascends, from-ascends}
 use Rattle.sequences.proofs.Choices.{length-sequences, sequences-members, sequences-ascend, sequences-once}
@@ -24,11 +24,6 @@ use Rattle.sequences.proofs.Members.{keep-members, below-members, getD-map}
 pub count-is-length : (d : Description) → length (candidates d) ≡ count d
 unfolding candidates count
 count-is-length d = length-sequences (map (choicesOf d) positions)
-
--- the candidates number the product of the choices at the sixteen positions
-pub candidates-number : (d : Description) → length (candidates d) ≡ product (map (λ b. length (choicesOf d b)) positions)
-unfolding count
-candidates-number d = count-is-length d
 
 module _ (d : Description) (few : length (d .clouds) ≤ 8) where
   -- a good position has a cloud below 8

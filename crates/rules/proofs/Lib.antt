@@ -11,6 +11,5 @@ pub mod Options
 pub mod Paths
 pub mod Reached
 pub mod Representatives
-pub mod SameOption
 pub mod Storage
 pub mod Transferring
