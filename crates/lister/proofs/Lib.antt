@@ -7,6 +7,7 @@ pub mod Filling
 pub mod Groups
 pub mod Indexing
 pub mod Interview
+pub mod ItemThree
 pub mod Joins
 pub mod Ordering
 pub mod Paired
@@ -14,4 +15,5 @@ pub mod RowOrder
 pub mod RowTest
 pub mod Scanning
 pub mod Small
+pub mod Standing
 pub mod Walked

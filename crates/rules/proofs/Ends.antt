@@ -16,9 +16,9 @@ use Rattle.description.specs.declared.workflow.Edge.{Edge}
 use Rattle.description.specs.Format.{Description, block, cloud, noEdge, isDatum, isWrite}
 use Rattle.description.specs.Invariants.{WellFormed}
 use Rattle.rules.specs.Placements.{serviceCloud, datumCloud, moves}
-use Rattle.rules.specs.Cost.{chargedOf}
-use Rattle.rules.specs.Options.{writersOf, readersOf, stem, branch, joined, part}
-use Rattle.rules.specs.Representatives.{dataOf, edgeCost, storedOn, share, partOf, otherEnd, between, movesTo, SameServices}
+use Rattle.rules.specs.Cost.{chargedOf, edgeCost}
+use Rattle.rules.specs.Options.{writersOf, readersOf, stem, branch, joined, part, partOf}
+use Rattle.rules.specs.Representatives.{dataOf, storedOn, share, otherEnd, between, movesTo, SameServices}
 use Rattle.rules.proofs.Locality.{data-are, edge-service, edge-datum}
 use Rattle.rules.proofs.Paths.{beside, path, path-ends, end-apart, end-paths, carried, end-carried}
 use Rattle.sequences.specs.Lists.{keep, before}

@@ -11,7 +11,6 @@ pub mod Options
 pub mod Paths
 pub mod Reached
 pub mod Representatives
-pub mod SameOption
 pub mod Storage
 pub mod Transferring
 pub mod Weights

@@ -1,10 +1,10 @@
 -- Where the services stand on the same clouds, what a datum adds to the option and to the cost depends on its own cloud only; and the
 -- cost is the services' computing and one share for each datum.
-use Prim.Native.Nat.{ℕ, suc, _+_, _<_}
+use Prim.Native.Nat.{ℕ, _+_, _<_}
 use native.Mathlib.Omega.{arith}
 use mathlib.Core.Path.{_≡_, refl, ap, ap₂, _∙_}
 use mathlib.Core.Logic.{_↔_, Iff·trans, Iff·and, Iff·rfl}
-use mathlib.Core.Bool.{Bool, true, false, not, _&&_, cond, true≢false}
+use mathlib.Core.Bool.{Bool, true, false, not, _&&_, true≢false}
 use mathlib.Core.List.{List, [], _∷_, _++_, map, List·Memᴰ}
 use lib.Dec.{eqb, ltb}
 use lib.ListN.{length, getD}
@@ -16,10 +16,11 @@ use Rattle.description.specs.declared.workflow.Edge.{Edge}
 use Rattle.description.specs.Format.{Description, block, cloud, edge, noEdge, isDatum, isWrite, namesService}
 use Rattle.description.specs.Invariants.{WellFormed}
 use Rattle.rules.specs.Placements.{serviceCloud, datumCloud, moves, exposes}
-use Rattle.rules.specs.Transfers.{transferOf, transfersFrom, transfers}
-use Rattle.rules.specs.Cost.{storageOf, cpuOf, transferCost, ofBlocks, cost}
+use Rattle.rules.specs.Transfers.{transfers}
+use Rattle.rules.specs.Cost.{storageOf, cpuOf, ofBlocks, edgeCost, cost}
 use Rattle.rules.specs.Options.{writersOf, readersOf, stem, branch, joined, part}
-use Rattle.rules.specs.Representatives.{dataOf, edgesOf, edgeCost, storedOn, share, SameServices}
+use Rattle.rules.specs.Representatives.{dataOf, edgesOf, storedOn, share, SameServices}
+use Rattle.rules.proofs.Transferring.{transfers-by-edge}
 use Rattle.sequences.specs.Ascending.{Once}
 use Rattle.sequences.specs.Lists.{keep, below, sum}
 use Rattle.sequences.proofs.Tests.{both-pass}
@@ -115,18 +116,6 @@ no-storage : (c : Cloud) (k : Kind) → isDatum k ≡ false → storageOf c k �
 no-storage c (Datum size longevity) f = absurd (true≢false f)
 no-storage c (Service clearance units) f = refl
 
--- a transfer's cost does not go by the edge's number
-transfer-sum : (d : Description) (p : List ℕ) (n : ℕ) (es : List Edge) → sum (map (transferCost d) (transfersFrom n p es)) ≡ sum (map (edgeCost d p) es)
-unfolding edgeCost
-transfer-sum d p n [] = refl
-transfer-sum d p n (e ∷ es) = step (moves p e) (transfer-sum d p (suc n) es)
-  where
-    step : (t : Bool) → sum (map (transferCost d) (transfersFrom (suc n) p es)) ≡ sum (map (edgeCost d p) es)
-        → sum (map (transferCost d) (cond t (transferOf n p e ∷ transfersFrom (suc n) p es) (transfersFrom (suc n) p es)))
-        ≡ cond t (transferCost d (transferOf 0 p e)) 0 + sum (map (edgeCost d p) es)
-    step true h = omega (arith, h)
-    step false h = omega (arith, h)
-
 -- The cost is the services' computing, and one share for each datum.
 pub cost-shares : (d : Description) → WellFormed d → (p : List ℕ) → cost d p ≡ ofBlocks cpuOf d p + sum (map (share d p) (dataOf d))
 unfolding cost share transfers
@@ -137,7 +126,7 @@ cost-shares d w p =
       arith,
       sum-plus storage carried (dataOf d),
       sum-kept (λ n. isDatum (block d n .kind)) storage (below (length (d .blocks))) (λ n _ f. no-storage (cloud d (getD p n 0)) (block d n .kind) f),
-      transfer-sum d p 0 (d .edges),
+      transfers-by-edge d p 0 (d .edges),
       sum-groups (λ e. e .datum) (edgeCost d p) (dataOf d) (data-once d) (d .edges) (edge-datum d w),
     )
 

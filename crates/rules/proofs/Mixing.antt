@@ -2,7 +2,7 @@
 -- a third; and a datum that alone moves to a cloud where it may stand leaves a secure candidate secure.
 use Prim.Native.Nat.{ℕ, _<_}
 use native.Mathlib.Omega.{arith}
-use mathlib.Core.Path.{_≡_, refl, sym, ap, _∙_}
+use mathlib.Core.Path.{_≡_, sym, ap, _∙_}
 use mathlib.Core.Logic.{_↔_, Iff·trans, inl, inr}
 use mathlib.Core.Bool.{Bool, true, false, not, _&&_}
 use mathlib.Core.List.{List, List·Memᴰ}
@@ -19,8 +19,8 @@ use Rattle.rules.proofs.Deciding.{may-stand}
 use Rattle.rules.proofs.Candidates.{candidates-placed}
 use Rattle.rules.proofs.Options.{service-named, same-parts, same-services}
 use Rattle.rules.proofs.Locality.{data-are, edge-service, edge-datum, exposes-alike, part-local}
-use Rattle.sequences.proofs.Tests.{both-pass}
-use Rattle.sequences.proofs.Agreeing.{none-pass}
+use Rattle.sequences.proofs.Members.{none-members}
+use Rattle.sequences.proofs.Tests.{both-pass, and-fails}
 
 -- ---- security, edge by edge
 
@@ -28,10 +28,6 @@ use Rattle.sequences.proofs.Agreeing.{none-pass}
 either-way : (w x : Bool) → (not w && x ≡ false) → (w && x ≡ false) → x ≡ false
 either-way true x f g = g
 either-way false x f g = f
-
-and-fails : (w x : Bool) → x ≡ false → (w && x) ≡ false
-and-fails true x f = f
-and-fails false x f = refl
 
 module _ (d : Description) where
   -- secure: no edge, read or written, exposes a copy
@@ -41,11 +37,11 @@ module _ (d : Description) where
     λ t e m.
         let (reads, writes) = both-pass _ _ .0 t in
         either-way (isWrite (e .way)) (exposes d p e)
-        (none-pass (breaks16 d p) (d .edges) .0 (not-true _ reads) e m)
-        (none-pass (breaks17 d p) (d .edges) .0 (not-true _ writes) e m),
+        (none-members (breaks16 d p) (d .edges) .0 (not-true _ reads) e m)
+        (none-members (breaks17 d p) (d .edges) .0 (not-true _ writes) e m),
     λ h. both-pass _ _ .1 (
-      ap not (none-pass (breaks16 d p) (d .edges) .1 (λ e m. and-fails (not (isWrite (e .way))) (exposes d p e) (h e m))),
-      ap not (none-pass (breaks17 d p) (d .edges) .1 (λ e m. and-fails (isWrite (e .way)) (exposes d p e) (h e m))),
+      ap not (none-members (breaks16 d p) (d .edges) .1 (λ e m. and-fails (not (isWrite (e .way))) (exposes d p e) (h e m))),
+      ap not (none-members (breaks17 d p) (d .edges) .1 (λ e m. and-fails (isWrite (e .way)) (exposes d p e) (h e m))),
     ),
   )
 

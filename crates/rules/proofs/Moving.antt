@@ -3,9 +3,9 @@
 use Prim.Native.Nat.{ℕ, _+_}
 use native.Mathlib.Decide.{ℕ-discrete}
 use native.Mathlib.Omega.{arith}
-use mathlib.Core.Path.{_≡_, refl, sym, ap, _∙_}
+use mathlib.Core.Path.{_≡_, sym, ap, _∙_}
 use mathlib.Core.Logic.{_↔_}
-use mathlib.Core.Bool.{Bool, true, false, not, _&&_, true≢false}
+use mathlib.Core.Bool.{true, not, true≢false}
 use mathlib.Core.List.{List, List·Memᴰ}
 use lib.ListN.{length, getD, set, length-set}
 use lib.Seq.{getD-set-same, getD-set-other}
@@ -16,17 +16,14 @@ use Rattle.description.specs.Invariants.{WellFormed}
 use Rattle.rules.specs.Soundness.{covers, cloudLevel, blockLevel, mayStand, candidates}
 use Rattle.rules.specs.Placements.{serviceCloud, datumCloud, moves, exposes, secure}
 use Rattle.rules.specs.Cost.{cost}
-use Rattle.rules.specs.Options.{sameOption}
-use Rattle.rules.specs.Representatives.{dataOf, partOf, share, SameServices, SecureCandidate}
+use Rattle.rules.specs.Options.{partOf, sameOption}
+use Rattle.rules.specs.Representatives.{dataOf, share, SameServices, SecureCandidate}
 use Rattle.rules.proofs.Deciding.{may-stand}
 use Rattle.rules.proofs.Options.{service-named, same-parts}
 use Rattle.rules.proofs.Locality.{data-are, data-once, edge-service, edge-datum, part-local, share-local, cost-shares, cpu-local}
 use Rattle.rules.proofs.Mixing.{secure-edges, candidates-stand, block-low}
 use Rattle.sequences.proofs.Grouping.{sum-but-one}
-
-covered-kept : (m c : Bool) → c ≡ true → (m && not c) ≡ false
-covered-kept true c e = ap not e
-covered-kept false c e = refl
+use Rattle.sequences.proofs.Tests.{and-fails}
 
 module _ (d : Description) (w : WellFormed d) where
   -- a datum of a candidate stands on a cloud of its level
@@ -48,7 +45,7 @@ module _ (d : Description) (w : WellFormed d) where
       | yes here ↦ rw here (datum-covered p c e m)
       | no away ↦ not-false _ (rw (ne-eqb (serviceCloud p e) (datumCloud p e) away) at (secure-edges d p .0 s e m))
     ],
-    λ h. secure-edges d p .1 (λ e m. covered-kept (moves p e) (covers (cloudLevel d (serviceCloud p e)) (blockLevel d (e .datum))) (h e m)),
+    λ h. secure-edges d p .1 (λ e m. and-fails (moves p e) (not (covers (cloudLevel d (serviceCloud p e)) (blockLevel d (e .datum)))) (ap not (h e m))),
   )
 
   module _ (p : List ℕ) (c : SecureCandidate d p) (n : ℕ) (datum : List·Memᴰ n (dataOf d)) (k : ℕ) (may : mayStand d n k ≡ true) where

@@ -1,7 +1,7 @@
 -- Being the same option is an equivalence: it is equality of options, and that is equality of the blocks' parts, one by one. The
 -- same option has every service on the same cloud.
 use Prim.Native.Nat.{ℕ, _<_}
-use mathlib.Core.Path.{_≡_, refl, sym, _∙_}
+use mathlib.Core.Path.{_≡_}
 use mathlib.Core.Logic.{_↔_, Iff·trans}
 use mathlib.Core.Bool.{true, false, true≢false}
 use mathlib.Core.List.{List, head-eq-of-cons-eq}
@@ -10,11 +10,12 @@ use borrow.Author.Tests.{ltb-true, not-true}
 use Rattle.description.specs.declared.workflow.Kind.{Kind}
 use Rattle.description.specs.declared.workflow.Kind.the-variants.{Datum, Service}
 use Rattle.description.specs.Format.{Description, block, isDatum, namesService}
-use Rattle.rules.specs.Options.{part, option, sameOption}
-use Rattle.rules.specs.Representatives.{partOf, SameServices}
+use Rattle.rules.specs.Options.{part, partOf, option, sameOption}
+use Rattle.rules.specs.Representatives.{SameServices}
 use Rattle.sequences.specs.Lists.{below, equalBy, same}
+use Rattle.sequences.specs.Orders.{Equivalence}
 use Rattle.sequences.proofs.Tests.{both-pass}
-use Rattle.sequences.proofs.Equality.{equalBy-decides, same-decides}
+use Rattle.sequences.proofs.Equality.{equalBy-decides, same-decides, alike-by}
 use Rattle.sequences.proofs.Agreeing.{map-agree, agree-map}
 use Rattle.sequences.proofs.Members.{below-members}
 
@@ -24,15 +25,10 @@ module _ (d : Description) where
   unfolding sameOption
   same-options p q = equalBy-decides (equalBy same) (equalBy-decides same same-decides) (option d p) (option d q)
 
-  -- so it is an equivalence
-  pub same-reflexive : (p : List ℕ) → sameOption d p p ≡ true
-  same-reflexive p = same-options p p .1 refl
-
-  pub same-symmetric : (p q : List ℕ) → sameOption d p q ≡ true → sameOption d q p ≡ true
-  same-symmetric p q t = same-options q p .1 (sym (same-options p q .0 t))
-
-  pub same-transitive : (p q r : List ℕ) → sameOption d p q ≡ true → sameOption d q r ≡ true → sameOption d p r ≡ true
-  same-transitive p q r t u = same-options p r .1 (same-options p q .0 t ∙ same-options q r .0 u)
+  -- so it is an equivalence: a placement is the same option as itself; two are both ways round; and two that are the same as a third
+  -- are the same
+  pub sameOption-equivalence : Equivalence (sameOption d)
+  sameOption-equivalence = alike-by (option d) same-options
 
   -- it goes by the blocks' parts, one by one
   pub same-parts : (p q : List ℕ) → (sameOption d p q ≡ true) ↔ ((n : ℕ) → n < length (d .blocks) → partOf d p n ≡ partOf d q n)

@@ -39,12 +39,16 @@ end-apart a s b k e same = let (apart, ends) = other-end a s b k e in elim ends 
   | inr (bs, ka) ↦ apart (sym ka ∙ sym same ∙ bs)
 ]
 
+-- what is the same on both ends is the same here and there
+ends-agree : {A : Type 0} (f : ℕ → A) (a s b k : ℕ) → ((a ≡ s → ⊥) → f s ≡ f a) → otherEnd a s b ≡ some k → f k ≡ f b
+ends-agree f a s b k same e = let (apart, ends) = other-end a s b k e in elim ends [
+  | inl (ba, ks) ↦ rw (ba, ks) (same apart)
+  | inr (bs, ka) ↦ rw (bs, ka) (sym (same apart))
+]
+
 -- on both ends the path is the same
 pub end-paths : (a s b k : ℕ) → otherEnd a s b ≡ some k → path a s k ≡ path a s b
-end-paths a s b k e = let (apart, ends) = other-end a s b k e in elim ends [
-  | inl (ba, ks) ↦ rw (ba, ks) (turned apart)
-  | inr (bs, ka) ↦ rw (bs, ka) (sym (turned apart))
-]
+end-paths a s b k = ends-agree (path a s) a s b k turned
   where
     turned : (a ≡ s → ⊥) → path a s s ≡ path a s a
     turned apart = rw (ne-eqb a s apart, ne-eqb s a (λ z. apart (sym z)), eq-eqb s s refl, eq-eqb a a refl) refl
@@ -75,10 +79,7 @@ module _ (carry : ℕ → ℕ → ℕ) where
   carried a s o = cond (not (eqb a o)) (carry a o) 0 + cond (not (eqb s o)) (carry o s) 0
 
   pub end-carried : (a s b k : ℕ) → otherEnd a s b ≡ some k → carried a s k ≡ carried a s b
-  end-carried a s b k e = let (apart, ends) = other-end a s b k e in elim ends [
-    | inl (ba, ks) ↦ rw (ba, ks) (turned apart)
-    | inr (bs, ka) ↦ rw (bs, ka) (sym (turned apart))
-  ]
+  end-carried a s b k = ends-agree (carried a s) a s b k turned
     where
       turned : (a ≡ s → ⊥) → carried a s s ≡ carried a s a
       turned apart = rw (ne-eqb a s apart, ne-eqb s a (λ z. apart (sym z)), eq-eqb s s refl, eq-eqb a a refl) (omega arith)

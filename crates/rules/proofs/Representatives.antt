@@ -1,36 +1,32 @@
--- The test that looks at one datum at a time says exactly which placement is the first of its option; and each option has one, and
--- only one.
+-- The test that looks at one datum at a time says exactly which placement is the first of its option.
 use Prim.Native.Nat.{ℕ, _≤_, _<_}
 use native.Mathlib.Nat.{le-of-eq}
 use native.Mathlib.Decide.{decLt}
 use native.Mathlib.Omega.{arith}
 use mathlib.Core.Path.{_≡_, sym, ap, _∙_}
-use mathlib.Core.Logic.{_↔_, _⊎_, inl, inr}
-use mathlib.Core.Bool.{Bool, true, false, not, _&&_, true≢false, Bool-discrete}
-use mathlib.Core.List.{List, [], _∷_, map, List·Memᴰ, tail-eq-of-cons-eq}
+use mathlib.Core.Logic.{_↔_, inl, inr}
+use mathlib.Core.Bool.{true, false, not, true≢false, Bool-discrete}
+use mathlib.Core.List.{List, [], _∷_, map, List·Memᴰ}
 use lib.ListN.{length, getD, set}
 use borrow.Author.Tests.{lt-ltb, not-true}
 use Rattle.description.specs.Format.{Description, block, isDatum}
 use Rattle.description.specs.Invariants.{WellFormed}
-use Rattle.rules.specs.Soundness.{mayStand, candidates}
-use Rattle.rules.specs.Placements.{secure}
+use Rattle.rules.specs.Soundness.{mayStand}
 use Rattle.rules.specs.Cost.{cost}
-use Rattle.rules.specs.Options.{sameOption}
-use Rattle.rules.specs.Representatives.{dataOf, share, partOf, betterOn, standsLocally, SameServices, SecureCandidate, Earlier, First, StandsFor}
+use Rattle.rules.specs.Options.{partOf, sameOption}
+use Rattle.rules.specs.Representatives.{dataOf, share, betterOn, standsLocally, SameServices, SecureCandidate, Earlier, First}
 use Rattle.rules.proofs.Deciding.{may-stand}
-use Rattle.rules.proofs.Options.{same-parts, same-services, same-reflexive, same-symmetric, same-transitive}
+use Rattle.rules.proofs.Options.{same-parts, same-services}
 use Rattle.rules.proofs.Locality.{data-are, part-local, share-local, cost-shares, cpu-local}
 use Rattle.rules.proofs.Mixing.{candidates-stand, block-low, cloud-low}
 use Rattle.rules.proofs.Moving.{moved-own, moved-services, moved-secure, moved-same, moved-cost}
-use Rattle.sequences.specs.Lists.{any, keep, below, sum, same, before}
+use Rattle.sequences.specs.Lists.{any, below, sum, same, before}
 use Rattle.sequences.proofs.Tests.{both-pass, not-passed}
-use Rattle.sequences.proofs.Members.{keep-members, below-members}
-use Rattle.sequences.proofs.Agreeing.{none-pass}
+use Rattle.sequences.proofs.Members.{none-members, below-members}
 use Rattle.sequences.proofs.Equality.{equalBy-decides, same-decides}
-use Rattle.sequences.proofs.Orders.{before-irreflexive}
-use Rattle.sequences.proofs.Lexicographic.{before-cases, before-lower, before-rest, before-transitive, before-total, not-before, set-before, pair-before, pair-not-before}
+use Rattle.sequences.proofs.Orders.{before-cases, before-lower, before-rest}
+use Rattle.sequences.proofs.Lexicographic.{not-before, set-before, pair-before, pair-not-before}
 use Rattle.sequences.proofs.Grouping.{sum-below, sum-each}
-use Rattle.sequences.proofs.Least.{least}
 
 -- ---- the test
 
@@ -52,10 +48,10 @@ module _ (d : Description) (p : List ℕ) where
   pub stands-if : (standsLocally d p ≡ true) ↔ ((n : ℕ) → List·Memᴰ n (dataOf d) → (k : ℕ) → k < 8 → betterOn d p n k ≡ false)
   unfolding standsLocally
   stands-if = (
-    λ t n m k h. none-pass (betterOn d p n) (below 8) .0
-        (none-pass (λ n. any (betterOn d p n) (below 8)) (dataOf d) .0 (not-true _ t) n m) k (below-members 8 k .1 h),
-    λ h. ap not (none-pass (λ n. any (betterOn d p n) (below 8)) (dataOf d) .1
-        (λ n m. none-pass (betterOn d p n) (below 8) .1 (λ k i. h n m k (below-members 8 k .0 i)))),
+    λ t n m k h. none-members (betterOn d p n) (below 8) .0
+        (none-members (λ n. any (betterOn d p n) (below 8)) (dataOf d) .0 (not-true _ t) n m) k (below-members 8 k .1 h),
+    λ h. ap not (none-members (λ n. any (betterOn d p n) (below 8)) (dataOf d) .1
+        (λ n m. none-members (betterOn d p n) (below 8) .1 (λ k i. h n m k (below-members 8 k .0 i)))),
   )
 
 module _ (d : Description) (w : WellFormed d) where
@@ -131,48 +127,3 @@ module _ (d : Description) (w : WellFormed d) where
   -- A secure candidate passes the local test exactly where it is the first of its option.
   pub local-is-global : (p : List ℕ) → SecureCandidate d p → (standsLocally d p ≡ true) ↔ First d p
   local-is-global p cp = (passes-first p cp, first-passes p cp)
-
-  -- ---- one for each option
-
-  -- Of two that stand for one option, there is only one.
-  pub stands-once : (p q : List ℕ) → SecureCandidate d p → SecureCandidate d q → standsLocally d p ≡ true → standsLocally d q ≡ true
-      → sameOption d p q ≡ true → p ≡ q
-  stands-once p q cp cq sp sq t = tail-eq-of-cons-eq (before-total (cost d p ∷ p) (cost d q ∷ q)
-      (not-passed _ (local-is-global q cq .0 sq p cp t))
-      (not-passed _ (local-is-global p cp .0 sp q cq (same-symmetric d p q t))))
-
-  -- The first of an option is earlier than any other of it.
-  pub first-earlier : (q p : List ℕ) → First d q → SecureCandidate d p → sameOption d p q ≡ true → (q ≡ p) ⊎ Earlier d q p
-  first-earlier q p first cp t = elim (Bool-discrete (before (cost d q ∷ q) (cost d p ∷ p)) true) [
-    | yes e ↦ inr e
-    | no f ↦ inl (tail-eq-of-cons-eq (before-total (cost d q ∷ q) (cost d p ∷ p) (not-passed _ f) (not-passed _ (first p cp t))))
-  ]
-
-  -- Every secure candidate has one that stands for its option: it itself, or an earlier one.
-  pub representative : (p : List ℕ) → SecureCandidate d p → (q : List ℕ) × StandsFor d q p
-  representative p cp = go (least (λ q r. before (cost d q ∷ q) (cost d r ∷ r)) (λ q. before-irreflexive (cost d q ∷ q))
-      (λ q r s. before-transitive (cost d q ∷ q) (cost d r ∷ r) (cost d s ∷ s)) (listed p cp (same-reflexive d p)))
-    where
-      test : List ℕ → Bool
-      test q = secure d q && sameOption d q p
-
-      options : List (List ℕ)
-      options = keep test (candidates d)
-
-      listed : (q : List ℕ) → SecureCandidate d q → sameOption d q p ≡ true → List·Memᴰ q options
-      listed q cq t = keep-members test (candidates d) q .1 (cq .candidate, both-pass _ _ .1 (cq .safe, t))
-
-      go : (q : List ℕ) × List·Memᴰ q options × ((r : List ℕ) → List·Memᴰ r options → before (cost d r ∷ r) (cost d q ∷ q) ≡ false) → (q : List ℕ) × StandsFor d q p
-      go (q, m, low) =
-          let (candidate, t) = keep-members test (candidates d) q .0 m in
-          let (safe, alike) = both-pass _ _ .0 t in
-          let cq : SecureCandidate d q = record { candidate = candidate; safe = safe } in
-          let first : First d q = λ r cr u e. true≢false (sym e ∙ low r (listed r cr (same-transitive d r q p u alike))) in (
-            q,
-            record {
-              secure = cq;
-              stands = local-is-global q cq .1 first;
-              same = alike;
-              earlier = first-earlier q p first cp (same-symmetric d q p alike);
-            },
-          )

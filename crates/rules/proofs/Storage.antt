@@ -19,8 +19,8 @@ use Rattle.rules.proofs.Representatives.{better-if, stands-if}
 use Rattle.rules.proofs.Ends.{service-still, moves-to, moves-cost}
 use Rattle.sequences.specs.Lists.{below, before}
 use Rattle.sequences.proofs.Tests.{both-pass, not-passed, not-failed}
-use Rattle.sequences.proofs.Members.{below-members}
-use Rattle.sequences.proofs.Agreeing.{tests-agree, none-pass, some-passes}
+use Rattle.sequences.proofs.Members.{any-members, none-members, below-members}
+use Rattle.sequences.proofs.Agreeing.{tests-agree}
 use Rattle.sequences.proofs.Orders.{before-irreflexive}
 use Rattle.sequences.proofs.Lexicographic.{pair-before}
 
@@ -66,7 +66,7 @@ module _ (d : Description) (w : WellFormed d) (p : List ℕ) (c : SecureCandidat
   storage-if : (standsByStorage d p ≡ true) ↔ ((n : ℕ) → n < length (d .blocks) → cheaperOn d p n (movesTo d p n) ≡ false)
   unfolding standsByStorage
   storage-if =
-      let each = none-pass (λ n. cheaperOn d p n (movesTo d p n)) (below (length (d .blocks))) in
+      let each = none-members (λ n. cheaperOn d p n (movesTo d p n)) (below (length (d .blocks))) in
       (λ t n h. each .0 (not-true _ t) n (below-members _ n .1 h), λ h. ap not (each .1 (λ n m. h n (below-members _ n .0 m))))
 
   -- The test by storage passes exactly where the test by shares does.
@@ -81,9 +81,9 @@ module _ (d : Description) (w : WellFormed d) (p : List ℕ) (c : SecureCandidat
   unfolding standsByStorage
   moves-down = (
     λ f.
-        let (n, m, t) = some-passes test blocks .0 (not-false _ (storage-is-local ∙ f)) in
+        let (n, m, t) = any-members test blocks .0 (not-false _ (storage-is-local ∙ f)) in
         go n (below-members (length (d .blocks)) n .0 m) (movesTo d p n) refl t,
-    λ (n, k, down). sym storage-is-local ∙ ap not (some-passes test blocks .1 (
+    λ (n, k, down). sym storage-is-local ∙ ap not (any-members test blocks .1 (
       n,
       below-members (length (d .blocks)) n .1 (down .declared),
       rw (down .moves) (both-pass _ _ .1 (down .stands, lexicographic n k .1 (down .lower))),

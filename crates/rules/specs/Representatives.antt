@@ -10,10 +10,9 @@ use lib.Dec.{eqb}
 use Rattle.description.specs.declared.workflow.Edge.{Edge}
 use Rattle.description.specs.Format.{Description, block, cloud, isDatum, namesService}
 use Rattle.rules.specs.Soundness.{mayStand, candidates}
-use Rattle.rules.specs.Placements.{serviceCloud, moves, secure}
-use Rattle.rules.specs.Transfers.{transferOf}
-use Rattle.rules.specs.Cost.{storageOf, transferCost, cost}
-use Rattle.rules.specs.Options.{writersOf, readersOf, part, sameOption}
+use Rattle.rules.specs.Placements.{serviceCloud, secure}
+use Rattle.rules.specs.Cost.{storageOf, edgeCost, cost}
+use Rattle.rules.specs.Options.{writersOf, readersOf, partOf, sameOption}
 use Rattle.sequences.specs.Lists.{any, keep, below, sum, equalBy, same, before}
 
 -- ---- a datum's share of the cost
@@ -25,10 +24,6 @@ dataOf d = keep (λ n. isDatum (block d n .kind)) (below (length (d .blocks)))
 abbrev pub edgesOf : Description → ℕ → List Edge
 edgesOf d n = keep (λ e. eqb (e .datum) n) (d .edges)
 
--- what the transfer on an edge costs, 0 where there is none; the edge's number has no part in it
-unfoldable pub edgeCost : Description → List ℕ → Edge → ℕ
-edgeCost d p e = cond (moves p e) (transferCost d (transferOf 0 p e)) 0
-
 -- what storing datum n on cloud k costs
 abbrev pub storedOn : Description → ℕ → ℕ → ℕ
 storedOn d n k = storageOf (cloud d k) (block d n .kind)
@@ -38,10 +33,6 @@ unfoldable pub share : Description → List ℕ → ℕ → ℕ
 share d p n = storedOn d n (getD p n 0) + sum (map (edgeCost d p) (edgesOf d n))
 
 -- ---- the test by shares
-
--- what of block n decides the option
-abbrev pub partOf : Description → List ℕ → ℕ → List (List ℕ)
-partOf d p n = part d p n (block d n .kind)
 
 -- Datum n does better on cloud k: it may stand there, moved there alone it keeps its stem and branches, and its share there, then
 -- k, is lower than its share, then its cloud.
@@ -113,10 +104,3 @@ Earlier d q p = before (cost d q ∷ q) (cost d p ∷ p) ≡ true
 -- no secure candidate of the same option is earlier
 abbrev pub First : Description → List ℕ → Type 0
 First d p = (q : List ℕ) → SecureCandidate d q → sameOption d q p ≡ true → Earlier d q p → ⊥
-
--- q stands for the option of p: it passes the test, and is p itself or earlier
-pub record StandsFor (d : Description) (q p : List ℕ) : Type 0 where
-  pub secure : SecureCandidate d q
-  pub stands : standsLocally d q ≡ true
-  pub same : sameOption d q p ≡ true
-  pub earlier : (q ≡ p) ⊎ Earlier d q p

@@ -1,16 +1,16 @@
--- Functions and tests on a list go by its elements: two that agree on each make the same list; a test that no element passes fails on
--- each and keeps nothing; one that passes at one position at most keeps at most one element.
+-- Functions and tests on a list go by its elements: two that agree on each make the same list; a test that fails on each keeps
+-- nothing; one that passes at one position at most keeps at most one element.
 use Prim.Native.Nat.{ℕ, suc, _≤_, _<_, zero-le}
 use native.Mathlib.Nat.{zero-lt-suc, suc-inj, le-refl}
 use native.Mathlib.Omega.{arith}
-use mathlib.Core.Path.{_≡_, refl, sym, ap₂, _∙_}
+use mathlib.Core.Path.{_≡_, refl, sym, ap₂}
 use mathlib.Core.Logic.{_↔_, inl, inr}
-use mathlib.Core.Bool.{Bool, true, false, true≢false, false≢true, Bool-discrete}
+use mathlib.Core.Bool.{Bool, true, false, false≢true}
 use mathlib.Core.List.{List, [], _∷_, map, head-eq-of-cons-eq, tail-eq-of-cons-eq}
 use mathlib.Core.List.{List·Memᴰ, List·Memᴰ·head, List·Memᴰ·tail, List·Memᴰ·not-nil, List·Memᴰ·cases-cons}
 use lib.ListN.{length, getD}
-use Rattle.sequences.specs.Lists.{any, keep}
-use Rattle.sequences.proofs.Tests.{cond-ind, not-passed, not-failed, or-fails}
+use Rattle.sequences.specs.Lists.{keep}
+use Rattle.sequences.proofs.Tests.{cond-ind, not-passed}
 
 -- two tests that pass together agree
 pub tests-agree : (a b : Bool) → (a ≡ true) ↔ (b ≡ true) → a ≡ b
@@ -39,27 +39,6 @@ module _ {A B : Type 0} (f g : A → B) where
 pub keep-agree : {A : Type 0} (t u : A → Bool) (xs : List A) → ((x : A) → List·Memᴰ x xs → t x ≡ u x) → keep t xs ≡ keep u xs
 keep-agree t u [] h = refl
 keep-agree t u (x ∷ xs) h = rw (h x (List·Memᴰ·head refl), keep-agree t u xs (λ y m. h y (List·Memᴰ·tail m))) refl
-
--- no element passes exactly where each fails
-pub none-pass : {A : Type 0} (t : A → Bool) (xs : List A) → (any t xs ≡ false) ↔ ((x : A) → List·Memᴰ x xs → t x ≡ false)
-none-pass t [] = (λ _ x m. absurd (List·Memᴰ·not-nil m), λ _. refl)
-none-pass t (x ∷ xs) = (
-  λ f y m.
-      let (here, later) = or-fails (t x) (any t xs) f in
-      elim (List·Memᴰ·cases-cons m) [ inl same ↦ rw same here | inr k ↦ none-pass t xs .0 later y k ],
-  λ h. rw (h x (List·Memᴰ·head refl)) (none-pass t xs .1 (λ y m. h y (List·Memᴰ·tail m))),
-)
-
--- some element passes exactly where one can be shown
-pub some-passes : {A : Type 0} (t : A → Bool) (xs : List A) → (any t xs ≡ true) ↔ ((x : A) × List·Memᴰ x xs × (t x ≡ true))
-some-passes {A} t xs = (found xs, λ (x, m, e). not-failed _ (λ f. true≢false (sym e ∙ none-pass t xs .0 f x m)))
-  where
-    found : (ys : List A) → any t ys ≡ true → (x : A) × List·Memᴰ x ys × (t x ≡ true)
-    found [] e = absurd (false≢true e)
-    found (y ∷ ys) e = elim (Bool-discrete (t y) true) [
-      | yes here ↦ (y, List·Memᴰ·head refl, here)
-      | no away ↦ let (x, m, u) = found ys (rw (not-passed (t y) away) at e) in (x, List·Memᴰ·tail m, u)
-    ]
 
 -- where each fails, nothing is kept
 pub keep-none : {A : Type 0} (t : A → Bool) (xs : List A) → ((x : A) → List·Memᴰ x xs → t x ≡ false) → keep t xs ≡ []

@@ -1,11 +1,13 @@
--- Equality of lists: `equalBy` decides it, where its test decides equality of elements; and equal lists have equal last elements.
-use mathlib.Core.Path.{_≡_, refl, sym, ap₂}
+-- Equality of lists: `equalBy` decides it, where its test decides equality of elements; and equal lists have equal last elements. A
+-- test that decides equality is an equivalence.
+use mathlib.Core.Path.{_≡_, refl, sym, ap₂, _∙_}
 use mathlib.Core.Logic.{_↔_}
 use mathlib.Core.Bool.{Bool, true, false≢true}
 use mathlib.Core.List.{List, [], _∷_, _++_, nil≢cons, cons≢nil, head-eq-of-cons-eq, tail-eq-of-cons-eq, concat-ne-nil}
 use lib.Dec.{eqb}
 use borrow.Author.Tests.{eqb-true, eq-eqb}
 use Rattle.sequences.specs.Lists.{equalBy, same}
+use Rattle.sequences.specs.Orders.{Equivalence}
 use Rattle.sequences.proofs.Tests.{both-pass}
 
 -- the test passes exactly where its two arguments are equal
@@ -25,6 +27,14 @@ equalBy-decides test h (x ∷ xs) (y ∷ ys) = (
 -- of numbers, where `same` does
 pub same-decides : Decides same
 same-decides = equalBy-decides eqb (λ x y. (eqb-true x y, eq-eqb x y))
+
+-- a test that decides equality of what a map makes of elements is an equivalence of these
+pub alike-by : {A B : Type 0} {alike : A → A → Bool} (f : A → B) → ((x y : A) → (alike x y ≡ true) ↔ (f x ≡ f y)) → Equivalence alike
+alike-by f h = record {
+  reflexive = λ x. h x x .1 refl;
+  symmetric = λ x y t. h y x .1 (sym (h x y .0 t));
+  transitive = λ x y z t u. h x z .1 (h x y .0 t ∙ h y z .0 u);
+}
 
 -- two equal lists, by their last elements and what stands before them
 pub snoc-same : {A : Type 0} (xs ys : List A) (x y : A) → xs ++ (x ∷ []) ≡ ys ++ (y ∷ []) → (xs ≡ ys) × (x ≡ y)

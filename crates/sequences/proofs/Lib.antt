@@ -5,10 +5,8 @@ pub mod Counting
 pub mod Distinct
 pub mod Draws
 pub mod Equality
-pub mod Equivalences
 pub mod First
 pub mod Grouping
-pub mod Least
 pub mod Lexicographic
 pub mod Loops
 pub mod Members
