@@ -1,20 +1,29 @@
 -- The tables of an accepted description are its tables: what the walk sees over them is said of the description.
-use Prim.Native.Nat.{ℕ, _+_, _-_, _^_, _≤_, _<_}
+use Prim.Native.Nat.{ℕ, _+_, _-_, _*_, _/_, _%_, _^_, _≤_, _<_}
+use native.Mathlib.Nat.{suc-inj}
 use native.Mathlib.Omega.{arith}
 use mathlib.Core.Path.{_≡_, refl, sym, ap, subst, _∙_}
-use mathlib.Core.Bool.{Bool, true, false}
-use mathlib.Core.List.{List, _++_, List·Memᴰ}
+use mathlib.Core.Bool.{Bool, true, false, not, _&&_, _||_}
+use mathlib.Core.List.{List, [], _∷_, _++_, List·Memᴰ, Memᴰ·map}
 use mathlib.Core.Option.{Option, none, some}
 use lib.ListN.{length, replicate}
 use Rattle.description.specs.Bytes.{Bytes}
 use Rattle.description.specs.Format.{Description}
-use Rattle.description.specs.Invariants.{WellFormed}
-use Rattle.rules.specs.Soundness.{read, count}
+use Rattle.description.specs.Invariants.{WellFormed, Bounded}
+use Rattle.rules.specs.Soundness.{read, candidates}
+use Rattle.rules.specs.Placements.{secure}
+use Rattle.rules.specs.Terms.{blockTerm, weightOf}
 use Rattle.rules.specs.Cost.{cost}
-use Rattle.rules.proofs.Accepted.{accepted, read-wellFormed}
+use Rattle.rules.proofs.Accepted.{accepted, read-wellFormed, read-bounded}
+use Rattle.rules.proofs.CostBound.{bounded-cost}
+use Rattle.rules.proofs.Weights.{weight-secure, weight-cost, weight-16}
 use Rattle.rules.proofs.Candidates.{count-is-length}
 use Rattle.walk.specs.Packing.{pack, digits}
-use Rattle.walk.specs.Tables.{Ready}
+use Rattle.walk.specs.Tables.{weight}
+use Rattle.walk.specs.Tables.{stands as standsBy}
+use Rattle.walk.specs.Visiting.{isSecure, breaks16}
+use Rattle.walk.specs.Visiting.{earlier as earlierWalk}
+use Rattle.walk.proofs.Finding.{Kept}
 use Rattle.walk.specs.Walking.{seeAll}
 use Rattle.walk.specs.declared.visit.Seen.{Seen}
 use Rattle.walk.specs.declared.visit.Task.{Task}
@@ -23,21 +32,74 @@ use Rattle.lister.specs.declared.Row.{Row}
 use Rattle.lister.specs.declared.Cursor.{Cursor}
 use Rattle.lister.specs.declared.Figures.{Figures}
 use Rattle.lister.specs.Answers.{figuresOf}
-use Rattle.lister.specs.Building.{tablesOf}
-use Rattle.lister.specs.Joining.{Joined, met, padded}
-use Rattle.lister.specs.Rows.{Census, census, rowOf, draw}
+use Rattle.lister.specs.Building.{tablesOf, ownOf, pairsOf, pairAt, padded}
+use Rattle.lister.specs.Joining.{Joined, met}
+use Rattle.lister.specs.Rows.{Census, census, securePlacements, earlier, rowOf, later, draw}
 use Rattle.lister.specs.Seeing.{nothingSeen, TaskOf}
+use Rattle.lister.proofs.Built.{weights, allowed-is, placements-are, placement-low}
 use Rattle.lister.proofs.Counting.{census-sum}
+use Rattle.lister.proofs.Filling.{getD-table}
+use Rattle.lister.proofs.RowTest.{RowTables, tests-same}
+use Rattle.lister.proofs.Standing.{stands-by-storage}
 use Rattle.lister.proofs.Walked.{sees-16, sees-17, sees-secure, sees-options, draws}
 use Rattle.sequences.specs.Results.{ok}
 use Rattle.sequences.specs.Lists.{before}
-use lib.Dec.{ltb}
+use Rattle.sequences.proofs.Members.{keep-members}
+use Rattle.sequences.proofs.Orders.{before-irreflexive}
+use lib.Dec.{ltb, eqb}
 
-pub ready : (d : Description) → WellFormed d → Ready (tablesOf d) (length (d .blocks))
-ready d w = ?
+-- what the row test looks at
+rowTables : (d : Description) → WellFormed d → RowTables d (tablesOf d)
+unfolding tablesOf ownOf pairsOf
+rowTables d w = record {
+  own = λ b k hb hk.
+      let q : (b * 8 + k) / 8 ≡ b = omega arith in
+      let r : (b * 8 + k) % 8 ≡ k = omega arith in
+      getD-table 128 (λ i. blockTerm d (i / 8) (i % 8)) (b * 8 + k) (omega arith) ∙ rw (q, r) refl;
+  allows = allowed-is d w;
+  first = λ m h.
+      let q : 2 * m / 2 ≡ m = omega arith in
+      let r : 2 * m % 2 ≡ 0 = omega arith in
+      getD-table 32 (pairAt d) (2 * m) (omega arith) ∙ rw (q, r) refl;
+  second = λ m h.
+      let q : (2 * m + 1) / 2 ≡ m = omega arith in
+      let r : (2 * m + 1) % 2 ≡ 1 = omega arith in
+      getD-table 32 (pairAt d) (2 * m + 1) (omega arith) ∙ rw (q, r) refl;
+}
 
 pub joined : (s : List ℕ) (d : Description) → Bytes s → read s ≡ ok d → Joined d (tablesOf d)
-joined s d b r = ?
+joined s d b a = record {
+  candidatesAre = placements-are d w;
+  sized = λ q m. placement-low d w q m .0;
+  low = λ q m. placement-low d w q m .1;
+  secureIs = λ q m. ap isSecure (weighs q m) ∙ sym (weight-secure d (padded d q) bounded);
+  costIs = λ q m h. weighs q m ∙ weight-cost d (padded d q) bounded h;
+  breaksIs = λ q m h. ap breaks16 (weighs q m) ∙ sym (weight-16 d (padded d q) bounded);
+  standsIs = λ q m h.
+      tests-same d w (tablesOf d) (rowTables d w) q (placement-low d w q m .1) ∙
+      sym (stands-by-storage s d a (padded d q) (secure-member q m h));
+}
+  where
+    w : WellFormed d
+    w = read-wellFormed s d a
+
+    bounded : Bounded d
+    bounded = read-bounded s d a b
+
+    weighs : (q : List ℕ) → List·Memᴰ q (met d (tablesOf d)) → weight (tablesOf d) (length (d .blocks)) q ≡ weightOf d (padded d q)
+    weighs q m = weights d w q (placement-low d w q m .1)
+
+    secure-member : (q : List ℕ) → List·Memᴰ q (met d (tablesOf d)) → secure d (padded d q) ≡ true → List·Memᴰ (padded d q) (securePlacements d)
+    unfolding securePlacements
+    secure-member q m h = keep-members (secure d) (candidates d) (padded d q) .1
+        (subst (λ l. List·Memᴰ (padded d q) l) (placements-are d w) (Memᴰ·map (padded d) m), h)
+
+-- the same behind both lists changes nothing
+before-behind : (q u z : List ℕ) → length q ≡ length u → before (q ++ z) (u ++ z) ≡ before q u
+before-behind [] [] z e = before-irreflexive z
+before-behind [] (y ∷ u) z e = absurd (omega arith)
+before-behind (x ∷ q) [] z e = absurd (omega arith)
+before-behind (x ∷ q) (y ∷ u) z e = ap (λ b. ltb x y || (eqb x y && b)) (before-behind q u z (suc-inj e))
 
 -- ---- the census
 
@@ -94,7 +156,28 @@ KeptRow d (some row) r =
 
 pub kept-by : (s : List ℕ) (d : Description) → Bytes s → read s ≡ ok d → (c : Cursor) (t : Task) → TaskOf c (length (d .blocks)) t → (r : Seen)
     → r ≡ seeAll (tablesOf d) (length (d .clouds)) (length (d .blocks)) t nothingSeen → KeptRow d (draw d c) r
-kept-by s d b a c t h r e = ?
+kept-by s d b a c t h r e = subst (KeptRow d (draw d c)) (sym e) (go (draw d c) (draws d (tablesOf d) j c t ordered floor (h .draws) nothingSeen refl))
+  where
+    j : Joined d (tablesOf d)
+    j = joined s d b a
+
+    ordered : (q u : List ℕ) → List·Memᴰ q (met d (tablesOf d)) → List·Memᴰ u (met d (tablesOf d)) → before (padded d q) (padded d u) ≡ ltb (pack q) (pack u)
+    ordered q u m k =
+        before-behind q u (replicate (16 - length (d .blocks)) 0) (j .sized q m ∙ sym (j .sized u k)) ∙
+        sym (pack-before q u (j .sized q m ∙ sym (j .sized u k)) (j .low q m) (j .low u k))
+
+    floor : (q : List ℕ) → List·Memᴰ q (met d (tablesOf d)) → later c (rowOf d (padded d q)) ≡ not (earlierWalk (cost d (padded d q)) (pack q) (t .cost) (t .place))
+    floor q m = h .floor (cost d (padded d q)) q (j .sized q m) (j .low q m)
+
+    go : (o : Option Row) → Kept earlier (later c) (λ q. rowOf d (padded d q)) (λ x. x .cost) (λ q. weight (tablesOf d) (length (d .blocks)) q) pack
+        (standsBy (tablesOf d) (length (d .blocks))) (λ q. secure d (padded d q)) t (met d (tablesOf d))
+        (seeAll (tablesOf d) (length (d .clouds)) (length (d .blocks)) t nothingSeen) o
+        → KeptRow d o (seeAll (tablesOf d) (length (d .clouds)) (length (d .blocks)) t nothingSeen)
+    go none k = k
+    go (some row) (q, m, same, price, packed) = (
+      q, j .sized q m, j .low q m, same, price ∙ ap (λ x. x .cost) same,
+      subst (λ x. x .cost < 2 ^ 53) same (bounded-cost d (padded d q) (read-bounded s d a b)), packed,
+    )
 
 pub none-kept : (d : Description) (o : Option Row) (r : Seen) → KeptRow d o r → r .cost ≡ 2 ^ 53 → o ≡ none
 none-kept d none r k e = refl

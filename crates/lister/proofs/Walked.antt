@@ -24,7 +24,8 @@ use Rattle.walk.proofs.Tallies.{seen-16, seen-17, seen-secure, seen-rows}
 use Rattle.walk.proofs.Finding.{Fits, Kept, kept-all}
 use Rattle.lister.specs.declared.Row.{Row}
 use Rattle.lister.specs.declared.Cursor.{Cursor}
-use Rattle.lister.specs.Joining.{Joined, met, padded}
+use Rattle.lister.specs.Building.{padded}
+use Rattle.lister.specs.Joining.{Joined, met}
 use Rattle.lister.specs.Rows.{census, securePlacements, earlier, rowOf, rows, stands, later, draw}
 use Rattle.lister.proofs.Counting.{options-number, rows-length}
 use Rattle.lister.proofs.Drawing.{draw-walks}

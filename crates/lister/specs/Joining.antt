@@ -1,10 +1,10 @@
 -- What makes tables those of a description: the placements that a walk over them meets, with zeros behind them, are its candidates, and
 -- weights and row tests say of each what the rules say.
-use Prim.Native.Nat.{ℕ, _-_, _<_}
+use Prim.Native.Nat.{ℕ, _<_}
 use mathlib.Core.Path.{_≡_}
 use mathlib.Core.Bool.{true, false}
-use mathlib.Core.List.{List, _++_, map, List·Memᴰ}
-use lib.ListN.{length, getD, replicate}
+use mathlib.Core.List.{List, map, List·Memᴰ}
+use lib.ListN.{length, getD}
 use Rattle.description.specs.Format.{Description}
 use Rattle.rules.specs.Soundness.{candidates}
 use Rattle.rules.specs.Placements.{broken16, secure}
@@ -12,15 +12,12 @@ use Rattle.rules.specs.Cost.{cost}
 use Rattle.walk.specs.Tables.{Tables, placements, weight}
 use Rattle.walk.specs.Tables.{stands as standsBy}
 use Rattle.walk.specs.Visiting.{isSecure, breaks16}
+use Rattle.lister.specs.Building.{padded}
 use Rattle.lister.specs.Rows.{stands}
 
 -- the placements of the declared blocks, as the walk over the tables meets them
 abbrev pub met : Description → Tables → List (List ℕ)
 met d t = placements t (length (d .clouds)) (length (d .blocks))
-
--- a placement of the declared blocks with 0 in the positions past the last
-abbrev pub padded : Description → List ℕ → List ℕ
-padded d q = q ++ replicate (16 - length (d .blocks)) 0
 
 pub record Joined (d : Description) (t : Tables) : Type 0 where
   pub candidatesAre : map (padded d) (met d t) ≡ candidates d

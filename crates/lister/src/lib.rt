@@ -3,7 +3,7 @@ ghost use mathlib.Core.Path.{_≡_};
 ghost use Prim.Native.Nat.{_≤_};
 ghost use lib.ListN.{length};
 ghost use Rattle.sequences.specs.Results.{ok};
-ghost use Rattle.description.specs.Invariants.{WellFormed};
+ghost use Rattle.description.specs.Invariants.{WellFormed, InRange};
 ghost use Rattle.description.specs.Meaning.{describes};
 ghost use Rattle.rules.specs.Soundness.{read};
 ghost use Rattle.walk.specs.Walking.{seeAll};
@@ -72,6 +72,7 @@ pub struct Drawn {
 // All placements of a workflow are seen, once each.
 fn seen_by(w: Workflow, task: Task) -> Seen
     requires { ⌜ WellFormed (describes w) ⌝ }
+    requires { ⌜ InRange (describes w) ⌝ }
     ensures { λ r. ⌜ r ≡ seeAll (tablesOf (describes w)) (length (describes w .clouds)) (length (describes w .blocks)) task nothingSeen ⌝ }
 {
     let own = tables::own(w);

@@ -6,7 +6,7 @@ use mathlib.Core.Path.{_≡_, sym, _∙_}
 use mathlib.Core.Logic.{_⊎_, inl, inr}
 use mathlib.Core.Bool.{Bool, true, false, true≢false}
 use mathlib.Core.List.{List, [], _∷_, _++_}
-use lib.ListN.{length, getD, set, length-append, List·getD-append}
+use lib.ListN.{length, getD, set, length-append, List·getD-append, List·getD-eq-default}
 use lib.Seq.{getD-append-seam}
 use Rattle.sequences.specs.Lists.{any}
 use Rattle.sequences.proofs.Tests.{any-fails}
@@ -24,6 +24,12 @@ module _ {A : Type 0} (d : A) (l : List A) (a : A) where
 
 -- P holds of the element at every position. Past the last one the default stands, so it holds of that too.
 module _ {A : Type 0} (P : A → Type 0) (d : A) where
+  pub everywhere : (l : List A) → P d → ((i : ℕ) → i < length l → P (getD l i d)) → (i : ℕ) → P (getD l i d)
+  everywhere l p h i = elim (decLt i (length l)) [
+    | yes y ↦ h i y
+    | no n ↦ rw (List·getD-eq-default l d {n = i} (omega arith)) p
+  ]
+
   pub everywhere-snoc : (l : List A) (a : A) → ((i : ℕ) → P (getD l i d)) → P a → (i : ℕ) → P (getD (l ++ (a ∷ [])) i d)
   everywhere-snoc [] a h p zero = p
   everywhere-snoc [] a h p (suc i) = h i

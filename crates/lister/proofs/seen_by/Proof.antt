@@ -6,7 +6,7 @@ use Rattle.walk.specs.Tables.{tables, Ready}
 use Rattle.walk.specs.Walking.{seeAll}
 use Rattle.lister.specs.Building.{tablesOf}
 use Rattle.lister.specs.Seeing.{nothingSeen}
-use Rattle.lister.proofs.Joins.{ready}
+use Rattle.lister.proofs.Built.{ready}
 use mathlib.Core.Path.{_≡_, refl, sym, ap, _∙_}
 use borrow.Author.Needs.{needs}
 use Rattle.lister.proofs.seen_by.Statement.{statement}
@@ -42,7 +42,7 @@ unfolding tablesOf
 made c = λ i. tables (c .before .before .before .before .before .before .before .own .ensures i) (c .before .before .before .before .before .before .terms .ensures i) (c .before .before .before .before .before .ends .ensures i) (c .before .before .before .before .starts .ensures i) (c .before .before .before .masks .ensures i) (c .before .before .pairs .ensures i)
 
 walk-all-requires : tie.Need-walk-all-requires
-walk-all-requires c κs = (c .before .before .before .before .before .before .before .cloud-count .ensures .1, (subst₂ Ready (sym (made (c .before .before .before .before .before .before))) (sym (c .before .before .before .before .before .before .block-count .ensures .0)) (ready (describes (c .before .before .before .before .before .before .before .before .before .before .before .before .before .before .args .w)) c .before .before .before .before .before .before .before .before .before .before .before .before .before .before .pre), omega arith))
+walk-all-requires c κs = (c .before .before .before .before .before .before .before .cloud-count .ensures .1, (subst₂ Ready (sym (made (c .before .before .before .before .before .before))) (sym (c .before .before .before .before .before .before .block-count .ensures .0)) (ready (describes (c .before .before .before .before .before .before .before .before .before .before .before .before .before .before .args .w)) (c .before .before .before .before .before .before .before .before .before .before .before .before .before .before .pre .0) (c .before .before .before .before .before .before .before .before .before .before .before .before .before .before .pre .1)), omega arith))
 
 returns : tie.Need-returns
 returns c = c .walk-all .ensures ∙ (λ i. seeAll (made (c .before .before .before .before .before .before .before) i) (c .before .before .before .before .before .before .before .before .cloud-count .ensures .0 i) (c .before .before .before .before .before .before .before .block-count .ensures .0 i) (c .before .before .before .before .before .before .before .before .before .before .before .before .before .before .before .args .task) nothingSeen)
