@@ -4,18 +4,19 @@ use native.Mathlib.Decide.{decLt}
 use native.Mathlib.Omega.{arith}
 use mathlib.Core.Path.{_≡_, ap, subst⁻¹, _∙_}
 use mathlib.Core.Logic.{_↔_, Iff·trans}
+use mathlib.Core.Bool.{true}
 use mathlib.Core.List.{List, [], map, List·Memᴰ, Memᴰ·of-map}
 use lib.Dec.{ltb}
 use lib.ListN.{length, getD}
 use Rattle.description.specs.Format.{Description}
 use Rattle.rules.specs.Soundness.{candidates, choicesOf, count, mayStand, positions}
-use Rattle.rules.specs.Placements.{judge}
+use Rattle.rules.specs.Placements.{judge, secure}
 use Rattle.rules.specs.Statements.{Good, Placed}
 use Rattle.rules.proofs.Deciding.{may-stand, position-at}
-use Rattle.rules.proofs.Judging.{never-13}
+use Rattle.rules.proofs.Judging.{never-13, judge-candidate}
 use Rattle.sequences.specs.Ascending.{Ascending, Once}
 use Rattle.sequences.specs.Lists.{below, before}
-use Rattle.sequences.specs.Results.{refused}
+use Rattle.sequences.specs.Results.{ok, refused}
 use Rattle.sequences.proofs.Ascending.{keep-ascends, from-ascends}
 use Rattle.sequences.proofs.Choices.{length-sequences, sequences-members, sequences-ascend, sequences-once}
 use Rattle.sequences.proofs.Members.{keep-members, below-members, getD-map}
@@ -57,6 +58,13 @@ module _ (d : Description) (few : length (d .clouds) ≤ 8) where
   candidates-are p = Iff·trans (candidates-placed p) (
     λ (size, placed). (size, never-13 d p .1 placed),
     λ (size, never). (size, never-13 d p .0 never),
+  )
+
+  -- those that are secure are the lists of sixteen clouds that Judge says are secure
+  pub candidates-secure : (p : List ℕ) → (List·Memᴰ p (candidates d) × (secure d p ≡ true)) ↔ ((length p ≡ 16) × (judge d p ≡ ok tt))
+  candidates-secure p = (
+    λ (m, safe). let (size, placed) = candidates-placed p .0 m in (size, judge-candidate d p .1 (placed, safe)),
+    λ (size, judged). let (placed, safe) = judge-candidate d p .0 judged in (candidates-placed p .1 (size, placed), safe),
   )
 
 choices-ascend : (d : Description) (c : List ℕ) → List·Memᴰ c (map (choicesOf d) positions) → Ascending ltb c

@@ -19,17 +19,17 @@ stands test alike xs x = not (any (λ y. alike y x && test y x) xs)
 
 -- the test passes exactly where each member like x is not before it
 pub stands-first : {A : Type 0} (test alike : A → A → Bool) (xs : List A) (x : A)
-    → (not (any (λ y. alike y x && test y x) xs) ≡ true) ↔ ((y : A) → List·Memᴰ y xs → alike y x ≡ true → test y x ≡ false)
+    → (stands test alike xs x ≡ true) ↔ ((y : A) → List·Memᴰ y xs → alike y x ≡ true → test y x ≡ false)
 stands-first test alike xs x =
-    let none = none-members (λ y. alike y x && test y x) xs in (
-      λ s y m a. not-passed (test y x) (λ t. true≢false (sym (both-pass (alike y x) (test y x) .1 (a, t)) ∙ none .0 (not-true _ s) y m)),
-      λ h. rw (none .1 (λ y m. not-passed (alike y x && test y x) (λ b.
+    let each = none-members (λ y. alike y x && test y x) xs in (
+      λ s y m a. not-passed (test y x) (λ t. true≢false (sym (both-pass (alike y x) (test y x) .1 (a, t)) ∙ each .0 (not-true _ s) y m)),
+      λ h. rw (each .1 (λ y m. not-passed (alike y x && test y x) (λ b.
           let (a, t) = both-pass (alike y x) (test y x) .0 b in true≢false (sym t ∙ h y m a)))) refl,
     )
 
 module _ {A : Type 0} {test alike : A → A → Bool} (order : StrictOrder test) (laws : Equivalence alike) (xs : List A) where
   -- each member is like exactly one that stands so
-  pub least-represent : Represented alike (λ x. not (any (λ y. alike y x && test y x) xs)) xs
+  pub least-represent : Represented alike (stands test alike xs) xs
   least-represent = record {
     exists = λ x m. go x m (bestOf test (alike x) xs) (best-least order (alike x) xs);
     unique = λ x y m n s t a.
@@ -44,7 +44,7 @@ module _ {A : Type 0} {test alike : A → A → Bool} (order : StrictOrder test)
           (y, k, stands-first test alike xs y .1 (λ z n b. h .1 z (n, laws .transitive x y z a (laws .symmetric z y b))), a)
 
   -- and that one is the member itself or before it
-  pub stands-before : (x y : A) → List·Memᴰ x xs → not (any (λ z. alike z y && test z y) xs) ≡ true → alike x y ≡ true → (y ≡ x) ⊎ (test y x ≡ true)
+  pub stands-before : (x y : A) → List·Memᴰ x xs → stands test alike xs y ≡ true → alike x y ≡ true → (y ≡ x) ⊎ (test y x ≡ true)
   stands-before x y m s a = elim (Bool-discrete (test y x) true) [
     | yes t ↦ inr t
     | no f ↦ inl (order .total y x (not-passed (test y x) f) (stands-first test alike xs y .0 s x m a))
