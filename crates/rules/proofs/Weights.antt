@@ -13,8 +13,7 @@ use Rattle.sequences.proofs.Sums.{sum-append}
 use Rattle.description.specs.declared.workflow.Edge.{Edge}
 use Rattle.description.specs.Format.{Description, cloud, block, isWrite}
 use Rattle.description.specs.Invariants.{Bounded}
-use Rattle.rules.specs.Answers.{edgeCost}
-use Rattle.rules.specs.Cost.{chargedOf, storageOf, cpuOf, transferCost, ofBlock, cost}
+use Rattle.rules.specs.Cost.{chargedOf, storageOf, cpuOf, transferCost, ofBlock, cost, edgeCost}
 use Rattle.rules.specs.Placements.{serviceCloud, datumCloud, moves, exposes, breaks16, breaks17, broken16, broken17, secure}
 use Rattle.rules.specs.Terms.{blockTerm, edgeCharge, edgeExposes, edgeTerm, weightOf}
 use Rattle.rules.specs.Transfers.{transfers, transfersFrom}
