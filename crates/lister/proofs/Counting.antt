@@ -74,7 +74,7 @@ unfolding census securePlacements
 census-sum d = three-parts (broken16 d) (broken17 d) (candidates d)
 
 -- the rows are as many as the placements that stand for their options
-rows-length : (d : Description) → length (rows d) ≡ length (keep (stands d) (securePlacements d))
+pub rows-length : (d : Description) → length (rows d) ≡ length (keep (stands d) (securePlacements d))
 unfolding rows
 rows-length d =
     let standing = keep (stands d) (securePlacements d) in

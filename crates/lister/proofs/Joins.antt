@@ -68,6 +68,7 @@ rowTables d w = record {
 }
 
 pub joined : (s : List ℕ) (d : Description) → Bytes s → read s ≡ ok d → Joined d (tablesOf d)
+unfolding securePlacements
 joined s d b a = record {
   candidatesAre = placements-are d w;
   sized = λ q m. placement-low d w q m .0;
@@ -90,7 +91,6 @@ joined s d b a = record {
     weighs q m = weights d w q (placement-low d w q m .1)
 
     secure-member : (q : List ℕ) → List·Memᴰ q (met d (tablesOf d)) → secure d (padded d q) ≡ true → List·Memᴰ (padded d q) (securePlacements d)
-    unfolding securePlacements
     secure-member q m h = keep-members (secure d) (candidates d) (padded d q) .1
         (subst (λ l. List·Memᴰ (padded d q) l) (placements-are d w) (Memᴰ·map (padded d) m), h)
 

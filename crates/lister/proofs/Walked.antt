@@ -119,7 +119,7 @@ module _ (d : Description) (t : Tables) (j : Joined d t) where
     unfolding seeAll
     sees-options z =
         seen-rows W pack (standsBy t n) task counting (met d t) s ∙ (rw (z, zero-add) (among (λ p. secure d p && stands d p) _ is-row)) ∙
-        sym (options-number d ∙ rows-number d)
+        sym (rows-number d) ∙ options-number d
 
   -- A walk that draws, from nothing kept, keeps the row that the draw answers, where numbers order placements and the floor is the
   -- cursor's.

@@ -18,7 +18,7 @@ use Rattle.rules.specs.Placements.{serviceCloud, datumCloud, moves, expo
 use Rattle.rules.specs.Terms.{blockTerm, edgeCharge, edgeExposes, edgeTerm, weightOf}
 use Rattle.rules.specs.Transfers.{transfers, transfersFrom}
 use Rattle.rules.proofs.CostBound.{bounded-cost}
-use Rattle.rules.proofs.Transferring.{own-first, own-cost}
+use Rattle.rules.proofs.Transferring.{transfers-by-edge}
 
 module _ (d : Description) (p : List ℕ) where
   -- how many edges break rule 16, rule 17
@@ -31,7 +31,7 @@ module _ (d : Description) (p : List ℕ) where
   -- ---- an edge's term, where the placement puts its blocks: its cost, and what it breaks
 
   charge-is : (e : Edge) → edgeCharge d e (serviceCloud p e) (datumCloud p e) ≡ edgeCost d p e
-  unfolding moves
+  unfolding moves edgeCost
   charge-is e = go (eqb (serviceCloud p e) (datumCloud p e)) (isWrite (e .way))
     where
       x : ℕ
@@ -66,14 +66,6 @@ module _ (d : Description) (p : List ℕ) where
 
   -- ---- sums over edges and blocks
 
-  transfers-sum : (n : ℕ) (es : List Edge) → sum (map (transferCost d) (transfersFrom n p es)) ≡ sum (map (edgeCost d p) es)
-  transfers-sum n [] = refl
-  transfers-sum n (e ∷ es) =
-      ap (λ l. sum (map (transferCost d) l)) (own-first n p e es) ∙
-      ap sum (map-append (transferCost d) (transfersFrom n p (e ∷ [])) (transfersFrom (suc n) p es)) ∙
-      sum-append (map (transferCost d) (transfersFrom n p (e ∷ []))) (map (transferCost d) (transfersFrom (suc n) p es)) ∙
-      ap₂ _+_ (own-cost d n p e) (transfers-sum (suc n) es)
-
   edges-sum : sum (map (λ e. edgeTerm d e (serviceCloud p e) (datumCloud p e)) (d .edges)) ≡
       sum (map (transferCost d) (transfers d p)) + 2 ^ 53 * (number16 + 33 * number17)
   unfolding transfers
@@ -85,7 +77,7 @@ module _ (d : Description) (p : List ℕ) where
       let b = sum-both (λ e. cond (breaks16 d p e) (2 ^ 53) 0) (λ e. cond (breaks17 d p e) (33 * 2 ^ 53) 0) (d .edges) in
       let r = sum-passing (2 ^ 53) (breaks16 d p) (d .edges) in
       let w = sum-passing (33 * 2 ^ 53) (breaks17 d p) (d .edges) in
-      let t = transfers-sum 0 (d .edges) in
+      let t = transfers-by-edge d p 0 (d .edges) in
       omega arith
 
   -- The weight is the cost, with 2^53 for each edge that breaks rule 16 and 33 times that for each that breaks rule 17.
