@@ -4,13 +4,13 @@ use native.Mathlib.Nat.{suc-inj}
 use native.Mathlib.Omega.{arith}
 use mathlib.Core.Path.{_≡_, refl, sym, ap, subst, _∙_}
 use mathlib.Core.Bool.{Bool, true, false, not, _&&_, _||_}
-use mathlib.Core.List.{List, [], _∷_, _++_, List·Memᴰ, Memᴰ·map}
+use mathlib.Core.List.{List, [], _∷_, _++_, foldl, List·Memᴰ, Memᴰ·map}
 use mathlib.Core.Option.{Option, none, some}
-use lib.ListN.{length, replicate}
+use lib.ListN.{length, replicate, length-map}
 use Rattle.description.specs.Bytes.{Bytes}
 use Rattle.description.specs.Format.{Description}
 use Rattle.description.specs.Invariants.{WellFormed, Bounded}
-use Rattle.rules.specs.Soundness.{read, candidates}
+use Rattle.rules.specs.Soundness.{read, candidates, count}
 use Rattle.rules.specs.Placements.{secure}
 use Rattle.rules.specs.Terms.{blockTerm, weightOf}
 use Rattle.rules.specs.Cost.{cost}
@@ -24,7 +24,7 @@ use Rattle.walk.specs.Tables.{stands as standsBy}
 use Rattle.walk.specs.Visiting.{isSecure, breaks16}
 use Rattle.walk.specs.Visiting.{earlier as earlierWalk}
 use Rattle.walk.proofs.Finding.{Kept}
-use Rattle.walk.specs.Walking.{seeAll}
+use Rattle.walk.specs.Walking.{seeAt, seeAll}
 use Rattle.walk.specs.declared.visit.Seen.{Seen}
 use Rattle.walk.specs.declared.visit.Task.{Task}
 use Rattle.walk.proofs.Digits.{pack-before, pack-small, digits-pack}
@@ -101,6 +101,15 @@ before-behind [] (y ∷ u) z e = absurd (omega arith)
 before-behind (x ∷ q) [] z e = absurd (omega arith)
 before-behind (x ∷ q) (y ∷ u) z e = ap (λ b. ltb x y || (eqb x y && b)) (before-behind q u z (suc-inj e))
 
+-- with no candidates there is nothing to see
+pub none-seen : (d : Description) → WellFormed d → count d ≡ 0 → (task : Task) (s : Seen) → seeAll (tablesOf d) (length (d .clouds)) (length (d .blocks)) task s ≡ s
+unfolding seeAll
+none-seen d w e task s = go (met d (tablesOf d)) (sym (length-map (met d (tablesOf d)) (padded d)) ∙ ap length (placements-are d w) ∙ count-is-length d ∙ e)
+  where
+    go : (l : List (List ℕ)) → length l ≡ 0 → foldl (seeAt (tablesOf d) (length (d .blocks)) task) s l ≡ s
+    go [] z = refl
+    go (q ∷ l) z = absurd (omega arith)
+
 -- ---- the census
 
 -- what was seen is what the census counts
@@ -175,8 +184,13 @@ kept-by s d b a c t h r e = subst (KeptRow d (draw d c)) (sym e) (go (draw d c) 
         → KeptRow d o (seeAll (tablesOf d) (length (d .clouds)) (length (d .blocks)) t nothingSeen)
     go none k = k
     go (some row) (q, m, same, price, packed) = (
-      q, j .sized q m, j .low q m, same, price ∙ ap (λ x. x .cost) same,
-      subst (λ x. x .cost < 2 ^ 53) same (bounded-cost d (padded d q) (read-bounded s d a b)), packed,
+      q,
+      j .sized q m,
+      j .low q m,
+      same,
+      price ∙ ap (λ x. x .cost) same,
+      subst (λ x. x .cost < 2 ^ 53) same (bounded-cost d (padded d q) (read-bounded s d a b)),
+      packed,
     )
 
 pub none-kept : (d : Description) (o : Option Row) (r : Seen) → KeptRow d o r → r .cost ≡ 2 ^ 53 → o ≡ none

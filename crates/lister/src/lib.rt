@@ -15,14 +15,13 @@ ghost use Rattle.lister.specs.Seeing.{nothingSeen, TaskOf};
 
 pub mod tables;
 
-
-
 use description::workflow::Outcome;
 use description::workflow::Refusal;
 use description::workflow::Workflow;
 use description::workflow::block_count;
 use description::workflow::cloud_count;
 use rules::acceptance::accept;
+use rules::soundness::candidate_count;
 use walk::floor::floor_place;
 use walk::packing::unpacked;
 use walk::visit::Seen;
@@ -75,14 +74,6 @@ fn seen_by(w: Workflow, task: Task) -> Seen
     requires { ⌜ InRange (describes w) ⌝ }
     ensures { λ r. ⌜ r ≡ seeAll (tablesOf (describes w)) (length (describes w .clouds)) (length (describes w .blocks)) task nothingSeen ⌝ }
 {
-    let own = tables::own(w);
-    let terms = tables::terms(w);
-    let ends = tables::ends(w);
-    let starts = tables::starts(w);
-    let masks = tables::masks(w);
-    let pairs = tables::pairs(w);
-    let clouds = cloud_count(w) as u64;
-    let blocks = block_count(w);
     let nothing = Seen {
         breaking16: 0,
         breaking17only: 0,
@@ -91,7 +82,30 @@ fn seen_by(w: Workflow, task: Task) -> Seen
         cost: 9007199254740992,
         place: 0,
     };
-    walk_all(&own, &terms, &ends, &starts, &masks, &pairs, clouds, blocks, task, nothing)
+    // Where a block may stand nowhere there is nothing to see, and the walk would try all clouds of the blocks before it.
+    if candidate_count(w) == 0 {
+        return nothing;
+    }
+    let own = tables::own(w);
+    let terms = tables::terms(w);
+    let ends = tables::ends(w);
+    let starts = tables::starts(w);
+    let masks = tables::masks(w);
+    let pairs = tables::pairs(w);
+    let clouds = cloud_count(w) as u64;
+    let blocks = block_count(w);
+    walk_all(
+        &own,
+        &terms,
+        &ends,
+        &starts,
+        &masks,
+        &pairs,
+        clouds,
+        blocks,
+        task,
+        nothing,
+    )
 }
 
 fn count_all(description: &[u8], w: Workflow) -> Figures
