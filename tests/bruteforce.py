@@ -5,16 +5,17 @@ It follows the definitions and knows no algorithm: decode the bytes, check the
 rules, enumerate the candidates, test each one, group the secure ones by option,
 keep the first of every group, sort.  It shares nothing with what it is compared to.
 
-    bruteforce.py answer [--letters RJT]        cases in, one line for each out
-    bruteforce.py list                          a description in, its rows out
-    bruteforce.py generate [--letters RJT] DIR  write DIR/stdin and DIR/stdout
-    bruteforce.py check [--letters RJT] DIR     are they what would be written today?
+    bruteforce.py answer [--letters RJTCD]        cases in, one line for each out
+    bruteforce.py list                            a description in, its rows out
+    bruteforce.py generate [--letters RJTCD] DIR  write DIR/stdin and DIR/stdout
+    bruteforce.py check [--letters RJTCD] DIR     are they what would be written today?
 
 Parts: the description; its rules; placements; options and rows; the calls; cases
 and their answers; the cases that are stored; the checks; the command line.
 """
 
 import argparse
+import bisect
 import functools
 import itertools
 import math
@@ -347,47 +348,52 @@ def cost(described, placement):
 
 # ---- Options and rows -----------------------------------------------------------------
 
-def stem_and_branches(described, placement, datum):
+def stem_and_branches(placement, datum, writer, readers):
     home = placement[datum]
-    writer = described.writer(datum)
     stem = (home,)
     if writer is not None and placement[writer] != home:
         stem = (placement[writer], home)
     branches = tuple((placement[reader],) if placement[reader] != home else ()
-                     for reader in described.readers(datum))
+                     for reader in readers)
     if len(branches) == 1:
         # A lone branch continues the stem and is not compared by itself.
         return stem + branches[0], ()
     return stem, branches
 
 
-def option(described, placement):
-    """Equal for two secure placements exactly when they are the same option."""
-    return (tuple(placement[s] for s in described.services()),
-            tuple(stem_and_branches(described, placement, d) for d in described.data()))
+def option_of(described):
+    """A function of secure placements: equal exactly for those that are the same option."""
+    services = described.services()
+    links = [(d, described.writer(d), described.readers(d)) for d in described.data()]
+
+    def option(placement):
+        return (tuple(placement[s] for s in services),
+                tuple(stem_and_branches(placement, *link) for link in links))
+    return option
 
 
-def is_secure(described, placement):
-    try:
-        check_placement(described, placement)
-    except Refused:
-        return False
-    return True
+def is_secure(described, candidate):
+    return (first_broken(described, candidate, READS) is None
+            and first_broken(described, candidate, WRITES) is None)
 
 
 def rows_of(described):
     """The rows as (cost, placement), in the order in which they are drawn."""
+    option = option_of(described)
     groups = {}
     for placement in candidates(described):
         if is_secure(described, placement):
             row = (cost(described, placement), placement)
-            groups.setdefault(option(described, placement), []).append(row)
+            groups.setdefault(option(placement), []).append(row)
     return sorted(min(group) for group in groups.values())
 
 
 # ---- The calls ------------------------------------------------------------------------
 
-@functools.lru_cache(maxsize=64)
+KEPT = 2048                     # answers remembered: one description serves many cases
+
+
+@functools.lru_cache(maxsize=KEPT)
 def read(text):
     described = decode(text)
     check_workflow(described)
@@ -406,8 +412,10 @@ class Census(NamedTuple):
     options: int
 
 
+@functools.lru_cache(maxsize=KEPT)
 def census(text):
     described = read(text)
+    option = option_of(described)
     every = breaking_16 = breaking_17_only = secure = 0
     options = set()
     for placement in candidates(described):
@@ -418,21 +426,20 @@ def census(text):
             breaking_17_only += 1
         else:
             secure += 1
-            options.add(option(described, placement))
+            options.add(option(placement))
     return Census(every, breaking_16, breaking_17_only, secure, len(options))
 
 
-@functools.lru_cache(maxsize=8)
+@functools.lru_cache(maxsize=KEPT)
 def rows(text):
     return rows_of(read(text))
 
 
 def draw(text, cursor):
     """The first row later than the cursor, or None; the cursor None is the start."""
-    for row in rows(text):
-        if cursor is None or row > cursor:
-            return row
-    return None
+    found = rows(text)
+    passed = 0 if cursor is None else bisect.bisect_right(found, cursor)
+    return found[passed] if passed < len(found) else None
 
 
 def transfers(text, placement, buffer):
@@ -566,6 +573,13 @@ def answer_all(content, letters):
 class Case(NamedTuple):
     content: bytes
     expected: str | None        # the answer worked out by hand, where there is one
+    again: bool = False         # to be stored even if the same bytes were before
+
+    def letter(self):
+        return chr(self.content[0])
+
+    def text(self):
+        return self.content[3:3 + int.from_bytes(self.content[1:3], "big")]
 
 
 class Dice:
@@ -588,6 +602,10 @@ class Dice:
 
     def bytes(self, count):
         return bytes(self.below(256) for _ in range(count))
+
+    def shuffled(self, items):
+        left = list(items)
+        return [left.pop(self.below(len(left))) for _ in items]
 
 
 def encode(command, *operands):
@@ -636,6 +654,25 @@ def judge_case(text, placement, expected=None):
 
 def transfers_case(text, placement, room, expected=None):
     return Case(with_length(b"T", text) + placement + room.to_bytes(2, "big"), expected)
+
+
+def census_case(text, expected=None):
+    return Case(with_length(b"C", text), expected)
+
+
+def draw_case(text, cursor, expected=None, again=False):
+    """A draw from the start where the cursor is None, otherwise from a cost and bytes."""
+    flag, (price, placement) = (0, (0, placed())) if cursor is None else (1, cursor)
+    return Case(with_length(b"D", text) + cursor_bytes(flag, price, placement), expected, again)
+
+
+def start_case(text, price, placement, expected=None):
+    """A draw from the start, with operands after it that count for nothing."""
+    return Case(with_length(b"D", text) + cursor_bytes(0, price, placement), expected)
+
+
+def cursor_bytes(flag, price, placement):
+    return bytes([flag]) + price.to_bytes(8, "big") + placement
 
 
 def refused(text, number, place):
@@ -1455,35 +1492,529 @@ def transfers_cases(dice):
     yield from transfers_random(dice)
 
 
+# ---- The stored cases: descriptions for Census and Draw -------------------------------
+
+# The method paper's second example, in the block numbers of its Table 8.
+SECOND = (
+    cloud(0, 5, 5, 5, 5) + cloud(1, 10, 5, 5, 10)
+    + service(0, 1, 100) + datum(1, 100, 12)               # s1, d1
+    + service(1, 1, 10) + datum(1, 10, 0)                  # s3, d3
+    + service(0, 1, 40) + datum(1, 200, 0)                 # s4, d4
+    + service(0, 0, 50) + datum(0, 50, 12)                 # s2, d2
+    + service(1, 1, 60) + datum(1, 200, 12)                # s5, d5
+    + writes(0, 1) + reads(2, 1) + writes(2, 3) + reads(4, 3) + writes(4, 5) + reads(8, 5)
+    + writes(6, 7) + reads(8, 7) + writes(8, 9) + STOP)
+
+
+def stores(*rates):
+    """Clouds at level 0 that charge for storage alone."""
+    return b"".join(cloud(0, rate) for rate in rates)
+
+
+def pipe(what=datum(0, 10, 1), order="wdr", edges="wr"):
+    """A writer, a datum and its only reader, the one shape in which two homes are one option.
+
+    The letters w, d, r say in which order the blocks are declared, and then the edges.
+    """
+    blocks = {"w": service(0, HIGHEST), "d": what, "r": service(0, HIGHEST)}
+    links = {"w": writes(order.index("w"), order.index("d")),
+             "r": reads(order.index("r"), order.index("d"))}
+    return b"".join(blocks[each] for each in order) + b"".join(links[each] for each in edges)
+
+
+APART = pin(0, 0) + pin(2, 1)                              # a pipe's writer on 0, its reader on 1
+# A writer on cloud 0, its datum and two readers.
+FORK = (service() + datum(0, 10, 1) + service() * 2 + writes(0, 1) + reads(2, 1) + reads(3, 1)
+        + pin(0, 0))
+ONE_WAY = cloud(0, 1, 0, 3) + cloud(0, 2, 4, 0)            # 0 to 1 costs 7, 1 to 0 nothing
+GRID = EIGHT_CLOUDS + datum() * 2                          # 64 rows that cost nothing
+# Six services whose cpu units are powers of two: every cost from 0 to 63, once.
+POWERS = cloud() + cloud(cpu=1) + b"".join(service(units=1 << bit) for bit in range(6))
+HIGH_DATUM = cloud(0) + cloud(1) + datum(1) + service(0, 1)
+
+
+class Known(NamedTuple):
+    """A description with its census and its rows, both worked out by hand."""
+    text: bytes
+    counts: tuple
+    rows: str                   # each a cost, a space and a digit for each block
+
+    def found(self):
+        split_rows = [line.split() for line in self.rows.split(", ") if line]
+        return [(int(price), placed(*map(int, clouds))) for price, clouds in split_rows]
+
+
+KNOWN = [Known(begin + STOP, counts, found) for begin, counts, found in (
+    (M[:-1], (16, 8, 0, 8, 6),
+     "2820 11111, 2840 11110, 2920 11000, 2940 11001, 3020 11011, 3040 11010"),
+    (SECOND[:-1], (16, 8, 4, 4, 3), "6300 1111110011, 6600 1111111011, 6800 1111111111"),
+    # The cheaper home stands for the option; of two that cost the same, the earlier bytes.
+    (stores(1, 2) + pipe(), (8, 0, 0, 8, 6), "1 000, 1 001, 1 100, 1 101, 2 010, 2 111"),
+    (stores(2, 1) + pipe(), (8, 0, 0, 8, 6), "1 010, 1 011, 1 110, 1 111, 2 000, 2 101"),
+    (stores(1, 1) + pipe(), (8, 0, 0, 8, 6), "1 000, 1 001, 1 010, 1 100, 1 101, 1 111"),
+    (stores(1, 2) + pipe(datum(0, 10, 0)), (8, 0, 0, 8, 6),
+     "0 000, 0 001, 0 010, 0 100, 0 101, 0 111"),
+    (stores(2, 1) + pipe(datum(0, 0, 9)), (8, 0, 0, 8, 6),
+     "0 000, 0 001, 0 010, 0 100, 0 101, 0 111"),
+    (stores(0, 0) + pipe(datum(0, 10, 9)), (8, 0, 0, 8, 6),
+     "0 000, 0 001, 0 010, 0 100, 0 101, 0 111"),
+    (stores(1, 2) + pipe() + APART, (2, 0, 0, 2, 1), "1 001"),
+    (stores(2, 1) + pipe() + APART, (2, 0, 0, 2, 1), "1 011"),
+    (stores(1, 1) + pipe() + APART, (2, 0, 0, 2, 1), "1 001"),
+    (stores(1, 1, 1) + pipe() + pin(0, 2) + pin(2, 1), (3, 0, 0, 3, 2), "1 201, 1 211"),
+    (stores(1, 2, 1) + pipe() + pin(0, 2) + pin(2, 1), (3, 0, 0, 3, 2), "1 201, 1 221"),
+    (stores(3, 1, 1) + pipe() + pin(0, 1) + pin(2, 2), (3, 0, 0, 3, 2), "1 112, 3 102"),
+    # A home that a pin forbids stands for nothing, however cheap it is.
+    (stores(1, 2) + pipe() + pin(1, 1), (4, 0, 0, 4, 4), "2 010, 2 011, 2 110, 2 111"),
+    (stores(1, 2) + pipe() + APART + pin(1, 1), (1, 0, 0, 1, 1), "2 011"),
+    (stores(2, 1) + pipe() + APART + pin(1, 0), (1, 0, 0, 1, 1), "2 001"),
+    # Two readers: each has a copy of its own, so nothing merges.
+    (ONE_WAY + FORK + pin(2, 1) + pin(3, 1), (2, 0, 0, 2, 2), "9 0111, 15 0011"),
+    (ONE_WAY + FORK + pin(2, 0) + pin(3, 1), (2, 0, 0, 2, 2), "8 0001, 9 0101"),
+    (stores(1, 1, 1) + FORK + pin(2, 1) + pin(3, 2), (3, 0, 0, 3, 3), "1 0012, 1 0112, 1 0212"),
+    # Where the writer is the reader, or one of the two is missing, nothing merges either.
+    (stores(1, 1) + service() + datum(0, 10, 1) + writes(0, 1) + reads(0, 1), (4, 0, 0, 4, 4),
+     "1 00, 1 01, 1 10, 1 11"),
+    (stores(1, 1) + service() + datum(0, 10, 1) + writes(0, 1), (4, 0, 0, 4, 4),
+     "1 00, 1 01, 1 10, 1 11"),
+    (stores(1, 1) + service() + datum(0, 10, 1) + reads(0, 1), (4, 0, 0, 4, 4),
+     "1 00, 1 01, 1 10, 1 11"),
+    # Levels: what lies too low for a copy; both rules broken counts under 16.
+    (cloud(0, 1) + cloud(1, 2) + pipe(datum(1, 10, 1)), (4, 2, 1, 1, 1), "2 111"),
+    (HIGH_DATUM + writes(1, 0), (2, 0, 1, 1, 1), "0 11"),
+    (HIGH_DATUM + reads(1, 0), (2, 1, 0, 1, 1), "0 11"),
+    (HIGH_DATUM + writes(1, 0) + reads(1, 0), (2, 1, 0, 1, 1), "0 11"),
+    (HIGH_DATUM + datum(1) + reads(1, 0) + writes(1, 2), (2, 1, 0, 1, 1), "0 111"),
+    # Nothing to list: candidates that are all insecure, or no candidates.
+    (HIGH_DATUM + reads(1, 0) + pin(1, 0), (1, 1, 0, 0, 0), ""),
+    (HIGH_DATUM + writes(1, 0) + pin(1, 0), (1, 0, 1, 0, 0), ""),
+    (cloud(0) + datum(1), (0, 0, 0, 0, 0), ""),
+    (HIGH_DATUM + pin(0, 0), (0, 0, 0, 0, 0), ""),
+    (cloud(14) * 8 + service() * 15 + service(15, 15), (0, 0, 0, 0, 0), ""),
+    # The least and the most.
+    (cloud() + datum(), (1, 0, 0, 1, 1), "0 0"),
+    (cloud(0, 1) + datum(0, 11, 1), (1, 0, 0, 1, 1), "2 0"),
+    (cloud(cpu=65535) + service(units=0xFFFFFFFF) * 16, (1, 0, 0, 1, 1),
+     "4503530906845200 0000000000000000"),
+    (GRID, (64, 0, 0, 64, 64), ", ".join(f"0 {a}{b}" for a in range(8) for b in range(8))),
+    (POWERS, (64, 0, 0, 64, 64),
+     ", ".join(f"{n} {format(n, '06b')[::-1]}" for n in range(64))),
+)]
+
+
+def pipes():
+    """One merging datum in every order of blocks and edges, and where costs tie or not."""
+    for order in map("".join, itertools.permutations("wdr")):
+        for edges in ("wr", "rw"):
+            for clouds in (stores(1, 2), stores(2, 1), stores(1, 1), stores(3, 1, 2)):
+                yield clouds + pipe(datum(0, 11, 2), order, edges) + STOP
+
+
+def pipes_with_prices():
+    """Transfers and cpu beside storage, so that the order of rows turns on all three."""
+    for clouds in (cloud(0, 3, 1, 2, 5) + cloud(0, 1, 2, 1, 4),
+                   cloud(0, 0, 7, 0, 1) + cloud(0, 0, 0, 7, 1),
+                   cloud(1, 2, 1, 1, 3) + cloud(0, 1, 1, 1, 1) + cloud(1, 1, 1, 1, 2)):
+        for what in (datum(0, 10, 1), datum(0, 25, 0), datum(0, 0, 3), datum(1, 1, 65535)):
+            for block in range(3):
+                yield clouds + pipe(what) + service(0, 0, 2) + pin(block, 0) + STOP
+            yield clouds + pipe(what) + STOP
+
+
+def two_pipes():
+    """Two data that merge, each by itself: in a row, in a circle, between the same two."""
+    blocks = service() * 2 + datum(0, 10, 1) + datum(0, 20, 1)
+    row = service() * 3 + datum(0, 10, 1) + datum(0, 20, 0)
+    for clouds in (stores(1, 2), stores(2, 1), stores(1, 1), stores(0, 0)):
+        yield clouds + blocks + writes(0, 2) + reads(1, 2) + writes(1, 3) + reads(0, 3) + STOP
+        yield clouds + blocks + writes(0, 3) + reads(1, 2) + writes(0, 2) + reads(1, 3) + STOP
+        yield clouds + row + writes(0, 3) + reads(1, 3) + writes(1, 4) + reads(2, 4) + STOP
+
+
+def pipes_with_levels():
+    """Levels and pins that leave a datum fewer homes, and its services fewer clouds."""
+    for levels in itertools.product((0, 1), repeat=3):
+        clouds = b"".join(cloud(height, 3 - k) for k, height in enumerate(levels))
+        yield clouds + pipe(datum(1, 10, 1)) + STOP
+        for home in range(3):
+            yield clouds + pipe(datum(0, 10, 1)) + pin(1, home) + STOP
+
+
+def forks():
+    """Two readers, on one cloud or on two."""
+    for pins in (b"", pin(2, 1), pin(3, 0), pin(1, 0), pin(1, 1)):
+        for clouds in (ONE_WAY, stores(1, 2, 3), stores(3, 1, 2), stores(2, 2, 1)):
+            yield clouds + FORK + pins + STOP
+
+
+# As many candidates as are allowed.  These take their time, so there are only three: all rows
+# and all free; with a pipe, on eight clouds; with few that are secure.
+LARGE_FREE = cloud() * 2 + datum() * 16 + STOP
+LARGE_PIPE = (b"".join(cloud(k // 6, k % 3, k % 2, k // 4, 7 - k) for k in range(8)) + pipe()
+              + datum(0, 10, 1) + service(0, 0, 3) + datum(1) + reads(4, 3) + STOP)
+LARGE_SPLIT = (b"".join(cloud(k // 2, 4 - k, k, 1, k % 2) for k in range(4))
+               + service(0, 1, 1) * 6 + datum(1, 10, 1) * 4 + writes(0, 6) + reads(1, 6)
+               + writes(2, 7) + reads(3, 7) + reads(4, 8) + writes(5, 9) + STOP)
+
+
+def pinned_but(free, clouds):
+    """Sixteen blocks pinned to so many clouds in turn, without those that are free."""
+    return b"".join(pin(block, block % clouds) for block in range(16) if block not in free)
+
+
+# Costs near the highest there can be: eight rows, 2^32 - 1 apart or several times that.
+HEAVY = (cloud(cpu=65535) + cloud(cpu=65534) + service(units=0xFFFFFFFF) * 16
+         + pinned_but((0, 7, 15), 1) + STOP)
+# Sixteen blocks of which the first and the last are free, on eight clouds without prices.
+FIRST_AND_LAST = EIGHT_CLOUDS + datum() * 16 + pinned_but((0, 15), 8) + STOP
+
+
+def crowded():
+    """Sixteen blocks and thirty-two edges, with four blocks that are not pinned."""
+    clouds = cloud(0, 1, 2, 3, 4) + cloud(0, 2, 1, 2, 3)
+    blocks = datum(0, 10, 1) * 8 + service(0, 0, 1) * 8
+    for edges in (ALL_READ, SOME_WRITE):
+        for free in ((0, 1, 8, 9), (0, 7, 14, 15), (3, 11, 12, 15)):
+            yield clouds + blocks + edges + pinned_but(free, 2) + STOP
+
+
+RATES = ((0,), (1,), (0, 1), (1, 2), (1, 2, 3), (0, 10, 11), (0, 1, 65535), (65534, 65535))
+READERS = (1, 1, 1, 1, 1, 1, 0, 2, 2, 3)                   # how many a datum has
+
+
+def random_flows(dice, most):
+    """A workflow in which most data have one reader, and prices are few, so that costs tie."""
+    made = Description()
+    rates, top = dice.choice(RATES), dice.choice((0, 0, 0, 1, 1, 2))
+    made.clouds = [Cloud(dice.between(0, top), *(dice.choice(rates) for _ in range(4)))
+                   for _ in range(dice.choice((2, 2, 2, 3, 3, 4, 8)))]
+    highest = max(each.level for each in made.clouds)
+    made.blocks = dice.shuffled([random_flow_service(dice, highest)
+                                 for _ in range(dice.between(1, 4))]
+                                + [random_flow_datum(dice, highest)
+                                   for _ in range(dice.between(1, 4))])
+    made.edges = random_flow_edges(dice, made)
+    pin_until(dice, made, most)
+    return made
+
+
+def random_flow_service(dice, highest):
+    location = dice.choice((0, 0, 0, dice.between(0, highest)))
+    return Service(location, HIGHEST, dice.choice((0, 0, 1, 1, 2, 50, 0xFFFFFFFF)))
+
+
+def random_flow_datum(dice, highest):
+    return Datum(dice.choice((0, highest, dice.between(0, highest))),
+                 dice.choice((0, 1, 9, 10, 10, 10, 11, 20, 65535)),
+                 dice.choice((0, 0, 1, 1, 2, 65535)))
+
+
+def random_flow_edges(dice, made):
+    edges = []
+    for d in made.data():
+        readers = dice.shuffled(made.services())[:dice.choice(READERS)]
+        edges += [Edge(READS, reader, d) for reader in readers]
+        if not dice.one_in(6):
+            edges.append(Edge(WRITES, dice.choice(made.services()), d))
+    return [edge for edge in dice.shuffled(edges)
+            if keeps_rule_3(made, edge) and keeps_rule_4(made, edge)]
+
+
+def pin_until(dice, made, most):
+    """Pins here and there, rarely to where the block may not stand, and as many as it takes."""
+    often = dice.choice((3, 8, 100))
+    for block in range(len(made.blocks)):
+        if dice.one_in(often):
+            made.pins[block] = dice.choice(allowed(made, block))
+    if dice.one_in(30):
+        made.pins[dice.below(len(made.blocks))] = dice.below(len(made.clouds))
+    while count_candidates(made) > most:
+        block = dice.below(len(made.blocks))
+        made.pins[block] = dice.choice(allowed(made, block))
+
+
+def flow_text(dice, most):
+    return b"".join(commands_of(dice, random_flows(dice, most)))
+
+
+QUICK = 1000                    # candidates; random descriptions with more are passed over
+
+
+def workflow_texts(dice, times):
+    for _ in range(times):
+        made = random_workflow(dice)
+        if count_candidates(made) <= QUICK:
+            yield b"".join(commands_of(dice, made))
+
+
+def spoilt_texts(dice, times):
+    """Descriptions of which many are refused, each for a reason of its own."""
+    for _ in range(times):
+        made = random_flows(dice, 30)
+        yield damage_commands(dice, commands_of(dice, made))
+        spoil(dice, made)
+        if not QUICK < count_candidates(made) <= MOST_CANDIDATES:
+            yield b"".join(commands_of(dice, made))
+
+
+# ---- The stored cases: Census ---------------------------------------------------------
+
+def census_line(counts):
+    return "census " + " ".join(map(str, counts))
+
+
+def census_by_hand():
+    for text, number, place in REFUSED_BY_READ:
+        yield census_case(text, f"refused {number} {place}")
+    for known in KNOWN:
+        yield census_case(known.text, census_line(known.counts))
+    yield census_case(LARGE_FREE, census_line((65536, 0, 0, 65536, 65536)))
+    # A pipe on k clouds: of k k k placements, k (k - 1) pairs are the same option.
+    for clouds, options in ((1, 1), (2, 6), (3, 21), (4, 52), (8, 456)):
+        text = stores(*range(clouds)) + pipe() + STOP
+        yield census_case(text, census_line((clouds ** 3, 0, 0, clouds ** 3, options)))
+    for text in (LARGE_PIPE, LARGE_SPLIT, HEAVY, FIRST_AND_LAST, LONGEST, STEPS + STOP,
+                 b"".join(MIXED_COMMANDS), *crowded(), *pipes(), *pipes_with_prices(),
+                 *pipes_with_levels(), *two_pipes(), *forks()):
+        yield census_case(text)
+    for block in range(5):                                 # M with one block pinned
+        for to in (0, 1):
+            yield census_case(M[:-1] + pin(block, to) + STOP)
+
+
+def census_random(dice):
+    for most in (8, 30, 100, 300, 900):
+        for _ in range(65):
+            yield census_case(flow_text(dice, most))
+    for text in (*workflow_texts(dice, 300), *spoilt_texts(dice, 60)):
+        yield census_case(text)
+
+
+def census_cases(dice):
+    yield from census_by_hand()
+    yield from census_random(dice)
+
+
+# ---- The stored cases: Draw -----------------------------------------------------------
+
+HIGHEST_COST = 2 ** 64 - 1
+FULL = bytes([255] * 16)
+ABOVE_CLOUDS = (8, 16, 64, 255)                            # bytes that no placement has
+
+
+def row_line(row):
+    return "finished" if row is None else f"row {row[0]} {digits(row[1])}"
+
+
+def chain(text, found):
+    """Draws from the start to the last row and three beyond it, each from the last row."""
+    cursor = None
+    for row in found + [None] * 3:
+        yield draw_case(text, cursor, row_line(row), again=row is None)
+        cursor = cursor if row is None else row
+
+
+def replaced(placement, position, value):
+    return placement[:position] + bytes([value]) + placement[position + 1:]
+
+
+def one_byte_off(row, positions):
+    price, placement = row
+    for position in positions:
+        for value in (placement[position] - 1, placement[position] + 1):
+            if 0 <= value <= 255:
+                yield price, replaced(placement, position, value)
+
+
+def one_byte_high(row, positions):
+    """A byte above every cloud, among them one that is the row's own but for high bits."""
+    price, placement = row
+    for position in positions:
+        for value in (*ABOVE_CLOUDS, placement[position] + 8, placement[position] + 128):
+            yield price, replaced(placement, position, value)
+
+
+def cost_off(row):
+    price, placement = row
+    for other in (price - 1, price + 1):
+        if other >= 0:
+            for at in (placement, placed(), FULL):
+                yield other, at
+    for bit in (16, 32, 48, 53, 63):                       # the row's cost but for a high bit
+        yield price + (1 << bit), placement
+
+
+def same_cost(row):
+    """At the row, before and after all rows of its cost, and just behind it."""
+    price, placement = row
+    yield row
+    yield price, placed()
+    yield price, FULL
+    yield price, placement[:-1] + bytes([255])
+
+
+OUTERMOST = [(0, placed()), (0, FULL), (HIGHEST_COST, placed()), (HIGHEST_COST, FULL),
+             (2 ** 53, placed()), (2 ** 63, FULL)]
+
+
+def draw_refused():
+    for text, number, place in REFUSED_BY_READ:
+        expected = f"refused {number} {place}"
+        for cursor in (None, (0, placed()), (HIGHEST_COST, FULL)):
+            yield draw_case(text, cursor, expected)
+        yield start_case(text, 1, FULL, expected)
+
+
+def draw_by_hand():
+    for known in KNOWN:
+        found = known.found()
+        yield from chain(known.text, found)
+        first = row_line(found[0] if found else None)
+        yield start_case(known.text, 0, FULL, first)
+        yield start_case(known.text, HIGHEST_COST, FULL, first)
+        if found:
+            yield start_case(known.text, *found[-1], first)
+            yield draw_case(known.text, (found[0][0], FULL))
+        yield draw_case(known.text, (HIGHEST_COST, placed()), "finished")
+        yield draw_case(known.text, (HIGHEST_COST, FULL), "finished")
+        yield draw_case(known.text, (0, placed()))
+
+
+def draw_around():
+    """Cursors near rows, in every direction."""
+    tied = stores(1, 1) + pipe() + STOP
+    for text in (M, tied):
+        for row in rows(text):
+            for cursor in (*same_cost(row), *one_byte_off(row, range(16))):
+                yield draw_case(text, cursor)
+    for text, numbers in ((M, (0, 3, 5)), (tied, (1, 3, 4)), (GRID + STOP, (0, 7, 29, 31, 62, 63)),
+                          (FIRST_AND_LAST, (0, 31, 63)), (POWERS + STOP, (0, 21, 63)),
+                          (HEAVY, (0, 3, 7))):
+        for number in numbers:
+            row = rows(text)[number]
+            for cursor in (*same_cost(row), *one_byte_off(row, (0, 1, 2, 7, 15)),
+                           *one_byte_high(row, (0, 1)), *cost_off(row)):
+                yield draw_case(text, cursor)
+        for cursor in OUTERMOST:
+            yield draw_case(text, cursor)
+
+
+def draw_large():
+    """As many candidates as are allowed, hence only a few draws of each."""
+    for number in (0, 1, 255, 256, 32767, 65534, 65535):   # rows of LARGE_FREE count in binary
+        cursor = (0, binary(number))
+        later = (0, binary(number + 1)) if number < 65535 else None
+        yield draw_case(LARGE_FREE, cursor, row_line(later))
+        yield draw_case(LARGE_FREE, (0, replaced(binary(number), 15, 2)))
+    for text in (LARGE_FREE, LARGE_PIPE, LARGE_SPLIT):
+        found = rows(text)
+        yield draw_case(text, None, row_line(found[0]))
+        yield draw_case(text, found[-1], "finished")
+        for part in range(5):
+            price, placement = found[part * len(found) // 5]
+            yield draw_case(text, (price, placement))
+            yield draw_case(text, (price, FULL))
+            yield draw_case(text, (price, replaced(placement, part, 255)))
+
+
+def binary(number):
+    return placed(*(number >> bit & 1 for bit in range(15, -1, -1)))
+
+
+def odd_cursor(dice, found, blocks):
+    """A cursor at a row, or one that is only slightly not, or any at all."""
+    row = price, placement = dice.choice(found) if found else (0, placed())
+    position = dice.below(dice.choice((blocks, 16)))
+    near = [row, *same_cost(row), *one_byte_off(row, [position])]
+    far = [*cost_off(row), *one_byte_high(row, [position]), *OUTERMOST,
+           (price, dice.bytes(16)), (dice.below(price + 2), dice.bytes(16)),
+           (price, placed(*(dice.below(8) for _ in range(blocks))))]
+    return dice.choice(dice.choice((near, near, far)))
+
+
+def draw_at_random(dice, text, times):
+    found, blocks = rows(text), len(read(text).blocks)
+    for _ in range(times):
+        yield draw_case(text, odd_cursor(dice, found, blocks))
+
+
+def draw_merges(dice):
+    """Where options merge, or seem to: whole chains, or single draws."""
+    for text in (*pipes(), *pipes_with_levels(), *two_pipes(), *forks()):
+        if len(rows(text)) <= dice.choice((8, 8, 30)):
+            yield from chain(text, rows(text))
+        else:
+            yield draw_case(text, None)
+            yield from draw_at_random(dice, text, 4)
+    for text in (*pipes_with_prices(), *crowded(), HEAVY, STEPS + STOP, LONGEST,
+                 b"".join(MIXED_COMMANDS)):
+        yield draw_case(text, None)
+        yield from draw_at_random(dice, text, 4)
+
+
+def draw_random(dice):
+    for number in range(80):
+        text = flow_text(dice, dice.choice((8, 24, 24, 64, 64, 200, 600)))
+        if number % 4 == 0 and len(rows(text)) <= 20:
+            yield from chain(text, rows(text))
+        yield draw_case(text, None)
+        yield start_case(text, dice.below(2 ** 16), dice.bytes(16))
+        yield from draw_at_random(dice, text, 6)
+    for text in workflow_texts(dice, 50):
+        yield from draw_at_random(dice, text, 4)
+    for text in spoilt_texts(dice, 60):
+        yield draw_case(text, random_cursor(dice))
+
+
+def random_cursor(dice):
+    if dice.one_in(3):
+        return None
+    return dice.below(100), placed(*(dice.below(3) for _ in range(5)))
+
+
+def draw_cases(dice):
+    yield from draw_refused()
+    yield from draw_by_hand()
+    yield from draw_around()
+    yield from draw_large()
+    yield from draw_merges(dice)
+    yield from draw_random(dice)
+
+
 # ---- The stored cases: all of them ----------------------------------------------------
 
 # In the order in which they are stored.  Each group has dice of its own, so a letter
 # that is added here at the end leaves what stands before it as it is.
-GROUPS = {"R": read_cases, "J": judge_cases, "T": transfers_cases}
+GROUPS = {"R": read_cases, "J": judge_cases, "T": transfers_cases, "C": census_cases,
+          "D": draw_cases}
 
-NUMBERS_DUE = {"R": range(1, 13), "J": range(1, 16), "T": range(1, 17)}
+NUMBERS_DUE = {"R": range(1, 13), "J": range(1, 16), "T": range(1, 17), "C": range(1, 13),
+               "D": range(1, 13)}
 
 
 def stored_cases(letters):
-    seen = set()                                           # the same bytes twice teach nothing
-    for letter, group in GROUPS.items():
+    seen = set()                                           # the same bytes twice teach nothing,
+    for letter, group in GROUPS.items():                   # but for draws that are repeated
         if letter in letters:
             for case in group(Dice(f"cases {letter}")):
-                if case.content not in seen:
+                if case.again or case.content not in seen:
                     yield case
                 seen.add(case.content)
 
 
-def stored_files(letters):
-    """The contents of the two files, after a look at the answers known by hand."""
+def answered_cases(letters):
+    """The stored cases and their lines, after a look at the answers known by hand."""
     cases = list(stored_cases(letters))
-    content = b"".join(case.content for case in cases)
-    lines = answer_all(content, letters)
+    lines = answer_all(contents_of(cases), letters)
     require(len(lines) == len(cases), "the cases do not divide as they were made")
     for case, line in zip(cases, lines):
         require(case.expected in (None, line),
                 f"by hand {case.expected!r}, by the rules {line!r}: {case.content.hex()}")
-    return content, text_of(lines)
+    return cases, lines
+
+
+def contents_of(cases):
+    return b"".join(case.content for case in cases)
 
 
 def text_of(lines):
@@ -1496,11 +2027,11 @@ def kind_of(line):
     return (words[0], int(words[1])) if words[0] == "refused" else (words[0], 0)
 
 
-def summary(lines):
+def summary(letter, lines):
     count = Counter(kind_of(line) for line in lines)
     parts = [f"{word} {number}: {count[word, number]}" if number else f"{word}: {count[word, 0]}"
              for word, number in sorted(count)]
-    return f"{len(lines)} cases; " + ", ".join(parts)
+    return f"{letter}: {len(lines)} cases; " + ", ".join(parts)
 
 
 # ---- The checks -----------------------------------------------------------------------
@@ -1529,7 +2060,8 @@ def check_interview():
     require(listing(M) == ["2820 11111", "2840 11110", "2920 11000", "2940 11001", "3020 11011",
                            "3040 11010", "options 6"], "interview 1: the rows of M")
     require(census(M) == (16, 8, 0, 8, 6), "interview 2: the census of M")
-    require(option(read(M), place("11000")) == option(read(M), place("11100")),
+    option = option_of(read(M))
+    require(option(place("11000")) == option(place("11100")),
             "interview 3: 11000 and 11100 are one option")
     require(refusal_of(judge, M, place("10000")) == (14, 0), "interview 4: 10000")
     require(refusal_of(read, b"") == (1, 0), "interview 5: empty input")
@@ -1552,24 +2084,40 @@ def check_bad_cases():
     for content, lines in ((b"", []), (whole, ["accepted 2 5 4"]),
                            (whole + b"X" + whole, ["accepted 2 5 4", "bad case"]),
                            (b"C" + whole[1:], ["bad case"]),
+                           (draw_case(M, None).content, ["bad case"]),
                            (transfers_case(M, placed(), 5).content[:-1], ["bad case"]),
                            (judge_case(M, placed()).content[:-1], ["bad case"])):
         require(answer_all(content, "RJT") == lines, f"bad case: {content.hex()}")
-    for length in range(1, len(whole)):
-        require(answer_all(whole[:length], LETTERS) == ["bad case"], f"cut at {length}")
+    drawn = draw_case(M, None).content
+    for case in (whole, drawn):
+        for length in range(1, len(case)):
+            require(answer_all(case[:length], LETTERS) == ["bad case"], f"cut at {length}")
+    for text in (M, STOP):                                 # a cursor is the start or a row
+        for flag in (2, 128, 255):
+            content = with_length(b"D", text) + cursor_bytes(flag, 0, placed())
+            require(answer_all(content, LETTERS) == ["bad case"], f"cursor with flag {flag}")
 
 
-def check_example():
-    """The stored interview file, and the bytes that the listing beside it shows."""
+def check_examples():
+    """The stored examples: their bytes, the listing that shows these, and their rows."""
     examples = ROOT / "examples"
-    require(stored_bytes(examples / "interview.bin") == M, "examples/interview.bin is not M")
+    for name, text in (("interview", M), ("second", SECOND)):
+        require(stored_bytes(examples / f"{name}.bin") == text, f"examples/{name}.bin differs")
+        require(shown_bytes(examples / f"{name}.txt") == text,
+                f"examples/{name}.txt does not show the bytes of {name}.bin")
+        require(stored_bytes(examples / f"{name}.expected") == text_of(listing(text)),
+                f"examples/{name}.expected is not the list of {name}.bin")
+
+
+def shown_bytes(path):
+    """The bytes in a listing, each line of which begins with their offset."""
     shown = b""
-    for line in stored_bytes(examples / "interview.txt").decode("ascii").splitlines():
+    for line in stored_bytes(path).decode("ascii").splitlines():
         found = re.match(r" *(\d+)  ([0-9A-F]{2}(?: [0-9A-F]+)*)(?:  |$)", line)
         if found:
-            require(int(found[1]) == len(shown), f"examples/interview.txt: offset {found[1]}")
+            require(int(found[1]) == len(shown), f"{path}: offset {found[1]}")
             shown += bytes.fromhex(found[2])
-    require(shown == M, "examples/interview.txt does not show the bytes of M")
+    return shown
 
 
 def stored_bytes(path):
@@ -1587,28 +2135,118 @@ def check_same(path, stored, made):
     require(False, f"{path} is not what would be written today, first at {where}")
 
 
+def draws(text, count):
+    """So many draws: the first from the start, each later one from the last row answered."""
+    cursor = None
+    answers = []
+    for _ in range(count):
+        row = draw(text, cursor)
+        answers.append(row)
+        if row is not None:
+            cursor = row
+    return answers
+
+
+def check_agreement(text):
+    """What Judge, Census and Draw say of one accepted description fits together."""
+    described, counts, found = read(text), census(text), rows(text)
+    verdicts = Counter(verdict(described, placement) for placement in candidates(described))
+    require(counts.candidates == count_candidates(described) == verdicts.total(),
+            f"candidates: {text.hex()}")
+    require((counts.breaking_16, counts.breaking_17_only, counts.secure)
+            == (verdicts[14], verdicts[15], verdicts[None]), f"census and judge: {text.hex()}")
+    require(counts.candidates == counts.breaking_16 + counts.breaking_17_only + counts.secure,
+            f"the census does not add up: {text.hex()}")
+    require(counts.options == len(found), f"options and rows: {text.hex()}")
+    require(all(one < other for one, other in itertools.pairwise(found)),
+            f"the rows do not rise: {text.hex()}")
+    require(draws(text, len(found) + 3) == found + [None] * 3, f"chain of draws: {text.hex()}")
+
+
+def check_standing(text):
+    """No secure placement precedes the row of its option.
+
+    Returns how rows differ from the other placements of their options: whether
+    they cost less, whether their bytes are earlier.
+    """
+    described = read(text)
+    if count_candidates(described) == MOST_CANDIDATES:     # this would take too long
+        return set()
+    option = option_of(described)
+    standing = {option(row[1]): row for row in rows(text)}
+    ways = set()
+    for placement in candidates(described):
+        if is_secure(described, placement):
+            own = cost(described, placement), placement
+            row = standing[option(placement)]
+            require(row <= own, f"no row is earlier: {text.hex()}")
+            if row[1] != placement:
+                ways.add((row[0] < own[0], row[1] < placement))
+    return ways
+
+
+def traits(text):
+    """What a description may show; the stored ones must show all of it between them."""
+    described, counts, found = read(text), census(text), rows(text)
+    ways = check_standing(text)
+    return {
+        "merged options": counts.secure > counts.options,
+        "row of equal cost and earlier bytes": (False, True) in ways,
+        "row of less cost and earlier bytes": (True, True) in ways,
+        "row of less cost and later bytes": (True, False) in ways,
+        "equal costs of two options": len({price for price, _ in found}) < len(found),
+        "a free row of zeros": found[:1] == [(0, placed())],
+        "costs above 2^51": any(price > 2 ** 51 for price, _ in found),
+        "writes broken alone": counts.breaking_17_only > 0,
+        "candidates but none secure": counts.candidates > 0 and counts.secure == 0,
+        "no candidates": counts.candidates == 0,
+        "all candidates allowed": counts.candidates == MOST_CANDIDATES,
+        "eight clouds": len(described.clouds) == MOST_CLOUDS,
+        "sixteen blocks": len(described.blocks) == MOST_BLOCKS,
+        "thirty-two edges": len(described.edges) == MOST_EDGES,
+    }
+
+
+def check_options(cases):
+    """Every accepted description of Census and Draw, and what they show between them."""
+    texts = dict.fromkeys(case.text() for case in cases if case.letter() in "CD")
+    accepted_texts = [text for text in texts if refusal_of(read, text) is None]
+    shown = Counter()
+    for text in accepted_texts:
+        check_agreement(text)
+        shown.update({trait: int(holds) for trait, holds in traits(text).items()})
+    missing = [trait for trait, times in shown.items() if times == 0]
+    require(not missing, f"no description of Census or Draw shows {missing}")
+    if shown:
+        print(f"{len(accepted_texts)} descriptions for Census and Draw; "
+              + ", ".join(f"{trait}: {times}" for trait, times in shown.items()))
+
+
+def check_numbers(letter, lines):
+    seen = {number for _, number in map(kind_of, lines)}
+    missing = sorted(set(NUMBERS_DUE[letter]) - seen)
+    require(not missing, f"no case of {letter} is refused with {missing}")
+
+
 def check(letters, directory):
     check_interview()
     check_bad_cases()
-    check_example()
-    content, text = stored_files(letters)
-    stored = stored_bytes(directory / "stdin")
-    stored_text = stored_bytes(directory / "stdout")
-    check_same(directory / "stdin", stored, content)
-    check_same(directory / "stdout", stored_text, text)
-    lines = answer_all(stored, letters)
-    require(text_of(lines) == stored_text, f"the answers to {directory}/stdin differ from stdout")
-    due = {number for letter in letters for number in NUMBERS_DUE[letter]}
-    seen = {number for _, number in map(kind_of, lines)}
-    require(due <= seen, f"no case is refused with {sorted(due - seen)}")
-    print(summary(lines))
+    check_examples()
+    cases, lines = answered_cases(letters)
+    for name, made in (("stdin", contents_of(cases)), ("stdout", text_of(lines))):
+        check_same(directory / name, stored_bytes(directory / name), made)
+    check_options(cases)
+    for letter in letters:
+        own = [line for case, line in zip(cases, lines) if case.letter() == letter]
+        check_numbers(letter, own)
+        print(summary(letter, own))
 
 
 def generate(letters, directory):
-    content, text = stored_files(letters)
+    cases, lines = answered_cases(letters)
     directory.mkdir(parents=True, exist_ok=True)
-    (directory / "stdin").write_bytes(content)
-    (directory / "stdout").write_bytes(text)
+    (directory / "stdin").write_bytes(contents_of(cases))
+    (directory / "stdout").write_bytes(text_of(lines))
 
 
 # ---- The command line -----------------------------------------------------------------

@@ -2,7 +2,7 @@
 use Prim.Native.Nat.{ℕ, _≤_, _<_}
 use native.Mathlib.Omega.{arith}
 use mathlib.Core.Path.{_≡_}
-use mathlib.Core.Bool.{Bool, true, false, not, _&&_, cond, and-eq-true-iff}
+use mathlib.Core.Bool.{Bool, true, false, not, _&&_, cond}
 use mathlib.Core.List.{List, [], _∷_}
 use mathlib.Core.Option.{none}
 use lib.ListN.{length}
@@ -10,7 +10,7 @@ use lib.Dec.{ltb, eqb}
 use borrow.Author.Tests.{ltb-true, ltb-false, leb-false, not-false}
 use Rattle.sequences.specs.Lists.{any}
 use Rattle.sequences.proofs.Positions.{everywhere-snoc, everywhere-set}
-use Rattle.sequences.proofs.Tests.{cond-ind, cond-none, or-fails}
+use Rattle.sequences.proofs.Tests.{cond-ind, cond-none, both-pass, or-fails}
 use Rattle.description.specs.declared.workflow.Cloud.{Cloud}
 use Rattle.description.specs.declared.workflow.Block.{Block}
 use Rattle.description.specs.declared.workflow.Kind.the-variants.{Datum, Service}
@@ -81,7 +81,7 @@ unrefused : (s : List ℕ) (c : Command) → faultOf s c ≡ none → Faultless 
 unrefused s c e = faultless ((1, ltb (length s) (c .width)) ∷ c .faults) e
 
 both : (a b : Bool) → not (a && b) ≡ false → (a ≡ true) × (b ≡ true)
-both a b e = and-eq-true-iff a b .0 (not-false (a && b) e)
+both a b e = both-pass a b .0 (not-false (a && b) e)
 
 -- a command that isn't refused is taken: for each, what is known of it
 module _ (s : List ℕ) (d : Description) where

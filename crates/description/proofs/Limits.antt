@@ -3,7 +3,7 @@ use Prim.Native.Nat.{ℕ, _+_, _^_, _≤_, _<_, zero-le}
 use native.Mathlib.Nat.{not-suc-le-zero}
 use native.Mathlib.Omega.{arith}
 use mathlib.Core.Path.{_≡_, refl, sym, ap, ap₂, _∙_}
-use mathlib.Core.Bool.{Bool, true, not, _&&_, _||_, or-true, and-comm, and-eq-true-iff}
+use mathlib.Core.Bool.{Bool, true, not, _&&_, _||_, or-true, and-comm}
 use mathlib.Core.List.{List, [], _∷_, _++_}
 use mathlib.Core.Logic.{inl, inr}
 use lib.Seq.{map-set-same}
@@ -11,7 +11,7 @@ use lib.ListN.{List·getD-map, length, getD, set, length-set, length-append, Lis
 use lib.Dec.{ltb}
 use borrow.Author.Tests.{ltb-true, lt-ltb, eq-eqb}
 use Rattle.sequences.specs.Results.{ok}
-use Rattle.sequences.proofs.Tests.{eqb-turn}
+use Rattle.sequences.proofs.Tests.{both-pass, eqb-turn}
 use Rattle.sequences.proofs.Positions.{snoc-at, everywhere-snoc, everywhere-set, Apart, apart-snoc}
 use Rattle.description.specs.declared.workflow.Block.{Block}
 use Rattle.description.specs.declared.workflow.Kind.{Kind}
@@ -112,9 +112,9 @@ module _ (side : Edge → ℕ) (right : Bool → Bool) where
 
   still : (l m : List Block) (b : ℕ) → Extends l m → Named l b → Named m b
   still l m b e n =
-      let q = and-eq-true-iff (ltb b (length l)) (right (isDatum (getD l b noBlock .kind))) .0 n in
+      let q = both-pass (ltb b (length l)) (right (isDatum (getD l b noBlock .kind))) .0 n in
       let h : b < length l = ltb-true b (length l) (q .0) in
-      and-eq-true-iff (ltb b (length m)) (right (isDatum (getD m b noBlock .kind))) .1
+      both-pass (ltb b (length m)) (right (isDatum (getD m b noBlock .kind))) .1
       (lt-ltb b (length m) (omega (arith, e .more)), rw (e .same b h) (q .1))
 
   names : ((w : Way) (s : List ℕ) (d : Description) → EdgeTaken s d w → Named (d .blocks) (side (edgeIn w s)))

@@ -1,6 +1,6 @@
 -- How the code's outcome goes on as the result that it means does.
-use mathlib.Core.Path.{_≡_, refl, sym, ap, _∙_}
-use Rattle.sequences.specs.Results.{Result, ok, refused, andThen}
+use mathlib.Core.Path.{_≡_, sym, ap, _∙_}
+use Rattle.sequences.specs.Results.{Result, refused, andThen}
 use Rattle.description.specs.declared.workflow.Refusal.{Refusal}
 use Rattle.description.specs.declared.workflow.Outcome.{Outcome}
 use Rattle.description.specs.declared.workflow.Outcome.the-variants.{Accepted, Refused}

@@ -8,25 +8,13 @@ use mathlib.Core.Option.{Option, none, some}
 use lib.ListN.{length}
 use lib.Dec.{eqb}
 use borrow.Author.Tests.{eqb-false}
-use Rattle.sequences.specs.Results.{ok, refused}
+use Rattle.sequences.specs.Results.{ok}
 use Rattle.sequences.proofs.Results.{ok-inj, ok-not-refused, andThen-ok, cond-ok}
 use Rattle.sequences.proofs.Tests.{or-fails}
 use Rattle.description.specs.Format.{Description, nothing, Command, commandAt, faultOf, ended, readFrom, inhabited, decode}
 use Rattle.description.specs.Bytes.{Bytes}
 use Rattle.description.proofs.Commands.{Any, Keeps, keeps-command}
-
--- ---- one byte at which a command begins: the reader ends, refuses, or takes the command and goes on
-
-module _ (b : ℕ) (rest : List ℕ) (at : ℕ) (d : Description) where
-  pub ends : eqb b 0 ≡ true → readFrom (b ∷ rest) 0 at d ≡ ended rest (suc at) d
-  ends e = rw (e, readFrom)
-
-  pub fails : {n : ℕ} → eqb b 0 ≡ false → faultOf (b ∷ rest) (commandAt (b ∷ rest) d) ≡ some n → readFrom (b ∷ rest) 0 at d ≡ refused n at
-  fails e f = rw (e, f, readFrom)
-
-  pub goes : eqb b 0 ≡ false → faultOf (b ∷ rest) (commandAt (b ∷ rest) d) ≡ none
-      → readFrom (b ∷ rest) 0 at d ≡ readFrom rest (pred (commandAt (b ∷ rest) d .width)) (suc at) (commandAt (b ∷ rest) d .after)
-  goes e f = rw (e, f, readFrom)
+use Rattle.description.proofs.Turns.{ends, fails, goes}
 
 ended-same : (rest : List ℕ) (at : ℕ) (d e : Description) → ended rest at d ≡ ok e → d ≡ e
 ended-same [] at d e r = ok-inj r

@@ -1,10 +1,9 @@
 -- What a step says of its command: it stops with a fault, or it goes on.
-use mathlib.Core.Path.{_≡_, refl, sym, ap, _∙_, subst}
+use mathlib.Core.Path.{_≡_, refl, sym, ap, _∙_}
 use Prim.Native.Nat.{ℕ}
 use mathlib.Core.Bool.{Bool, true, false, not, _&&_, _||_, cond}
 use mathlib.Core.List.{List}
-use mathlib.Core.Option.{Option, none, some}
-use native.Mathlib.Omega.{arith}
+use mathlib.Core.Option.{none, some, Option·some-ne-none}
 use Rattle.description.specs.declared.workflow.Workflow.{Workflow}
 use Rattle.description.specs.declared.decode.Checked.the-variants.{Sound, Fault}
 use Rattle.description.specs.declared.decode.Step.{Step}
@@ -15,15 +14,12 @@ use Rattle.description.specs.Format.{Command, faultOf, clash, isWrite, s
 use Rattle.description.specs.Meaning.{describes, faultIn, Steps}
 use lib.Dec.{eqb}
 
-some≢none : {n : ℕ} → some n ≡ none → ⊥
-some≢none e = let z : _≡_ {A = ℕ} 0 1 = cc in omega arith
-
 module _ (s : List ℕ) (c : Command) {w : Workflow} {r : Step} where
   pub stops : {n k : ℕ} → r ≡ record { fault = Fault n; width = k; workflow = w } → k ≡ c .width → faultOf s c ≡ some n → Steps s c r
   stops e k f = record {
     fault = ap (λ t. faultIn (t .fault)) e ∙ sym f;
     width = ap (λ t. t .width) e ∙ k;
-    after = λ g. absurd (some≢none (sym f ∙ g));
+    after = λ g. absurd (Option·some-ne-none _ (sym f ∙ g));
   }
 
   pub goes : {k : ℕ} → r ≡ record { fault = Sound; width = k; workflow = w } → k ≡ c .width → faultOf s c ≡ none → describes w ≡ c .after → Steps s c r

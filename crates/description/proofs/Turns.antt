@@ -1,17 +1,18 @@
 -- One turn of reading: what readFrom gives at a command that stands at an offset of the input.
-use mathlib.Core.Path.{_≡_, refl, sym, ap, _∙_}
+use mathlib.Core.Path.{_≡_, sym, ap, _∙_}
 use Prim.Native.Nat.{ℕ, zero, suc, pred, _+_, _-_, _≤_, _<_}
 use native.Mathlib.Nat.{add-zero, add-suc, suc-add, not-suc-le-zero, le-of-suc-le-suc}
 use native.Mathlib.Numerals.{add-one}
 use native.Mathlib.Omega.{arith}
 use mathlib.Core.Bool.{Bool, true, false, cond}
 use mathlib.Core.List.{List, [], _∷_}
-use mathlib.Core.Option.{Option, none, some}
+use mathlib.Core.Option.{none, some}
 use lib.ListN.{length, getD, take, drop, length-drop, drop-of-length-le}
 use lib.Seq.{drop-cons, drop-drop, take-all}
 use lib.Dec.{ltb, eqb, lit≤}
 use borrow.Author.Tests.{eq-eqb, ne-eqb, ltb-false}
-use Rattle.sequences.specs.Results.{Result, ok, refused}
+use Rattle.sequences.specs.Results.{ok, refused}
+use Rattle.sequences.proofs.Tests.{cond-none}
 use Rattle.description.specs.Format.{Description, Command, readFrom, ended, commandAt, firstFault, faultOf}
 
 -- the bytes of a command that was read are stepped over at once
@@ -22,12 +23,8 @@ skipped (b ∷ rest) (suc k) at d h =
     skipped rest k (suc at) d (le-of-suc-le-suc h) ∙ ap (λ n. readFrom (drop k rest) 0 n d) (suc-add at k ∙ sym (add-suc at k))
 
 -- a command with no fault is whole, and no command is empty
-no-fault : (b : Bool) (fs : List (ℕ × Bool)) → firstFault ((1, b) ∷ fs) ≡ none → b ≡ false
-no-fault false fs e = refl
-no-fault true fs e = let z : _≡_ {A = ℕ} 0 1 = cc in absurd (omega arith)
-
 pub whole : (s : List ℕ) (c : Command) → faultOf s c ≡ none → c .width ≤ length s
-whole s c e = ltb-false (length s) (c .width) (no-fault (ltb (length s) (c .width)) (c .faults) e)
+whole s c e = ltb-false (length s) (c .width) (cond-none (ltb (length s) (c .width)) 1 (firstFault (c .faults)) e .0)
 
 either : (P : Command → Type 0) (b : Bool) {x y : Command} → P x → P y → P (cond b x y)
 either P true p q = p
@@ -43,15 +40,15 @@ width-positive s d =
     (either P (eqb (getD s 0 0) 5) (lit≤ tt)
     (either P (eqb (getD s 0 0) 6) (lit≤ tt) (lit≤ tt))))))
 
--- at a list with a head
+-- at a list with a head: the reader ends, refuses, or takes the command and goes on
 module _ (b : ℕ) (rest : List ℕ) (at : ℕ) (d : Description) where
-  ends : eqb b 0 ≡ true → readFrom (b ∷ rest) 0 at d ≡ ended rest (suc at) d
+  pub ends : eqb b 0 ≡ true → readFrom (b ∷ rest) 0 at d ≡ ended rest (suc at) d
   ends e = rw (e, readFrom)
 
-  fails : {n : ℕ} → eqb b 0 ≡ false → faultOf (b ∷ rest) (commandAt (b ∷ rest) d) ≡ some n → readFrom (b ∷ rest) 0 at d ≡ refused n at
+  pub fails : {n : ℕ} → eqb b 0 ≡ false → faultOf (b ∷ rest) (commandAt (b ∷ rest) d) ≡ some n → readFrom (b ∷ rest) 0 at d ≡ refused n at
   fails e f = rw (e, f, readFrom)
 
-  goes : eqb b 0 ≡ false → faultOf (b ∷ rest) (commandAt (b ∷ rest) d) ≡ none
+  pub goes : eqb b 0 ≡ false → faultOf (b ∷ rest) (commandAt (b ∷ rest) d) ≡ none
       → readFrom (b ∷ rest) 0 at d ≡ readFrom rest (pred (commandAt (b ∷ rest) d .width)) (suc at) (commandAt (b ∷ rest) d .after)
   goes e f = rw (e, f, readFrom)
 

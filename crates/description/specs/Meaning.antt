@@ -5,7 +5,6 @@ use mathlib.Core.List.{List}
 use mathlib.Core.Option.{Option, none, some}
 use lib.ListN.{take}
 use Rattle.description.specs.declared.workflow.Workflow.{Workflow}
-use Rattle.description.specs.declared.workflow.Refusal.{Refusal}
 use Rattle.description.specs.declared.workflow.Outcome.{Outcome}
 use Rattle.description.specs.declared.workflow.Outcome.the-variants.{Accepted, Refused}
 use Rattle.description.specs.declared.workflow.Decoding.{Decoding}

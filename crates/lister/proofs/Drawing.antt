@@ -1,12 +1,13 @@
--- Draws in a row answer the rows one by one and then finished: `specs/ItemThree.antt`. And a draw can be made by one walk over the
--- candidates.
+-- Draws in a row answer the rows one by one and then finished; the rows rise, and are those of the placements that stand for their
+-- options. And a draw can be made by one walk over the candidates.
 use Prim.Native.Nat.{ℕ}
 use native.Mathlib.Nat.{le-refl}
 use mathlib.Core.Path.{_≡_, refl, sym, ap, _∙_}
 use mathlib.Core.Logic.{_↔_, Iff·trans}
 use mathlib.Core.Bool.{Bool, true, false, _&&_, _||_}
-use mathlib.Core.List.{List, map, foldl, List·Memᴰ, Memᴰ·map, Memᴰ·of-map, Memᴰ·cast}
-use mathlib.Core.Option.{none}
+use mathlib.Core.List.{List, _++_, map, foldl, List·Memᴰ, Memᴰ·map, Memᴰ·of-map, Memᴰ·cast}
+use mathlib.Core.Option.{none, some}
+use lib.ListN.{take, replicate}
 use Rattle.description.specs.Format.{Description}
 use Rattle.rules.specs.Soundness.{candidates}
 use Rattle.rules.specs.Placements.{secure}
@@ -14,9 +15,9 @@ use Rattle.rules.proofs.Candidates.{candidates-once}
 use Rattle.lister.specs.declared.Row.{Row}
 use Rattle.lister.specs.declared.Cursor.{Cursor}
 use Rattle.lister.specs.Rows.{securePlacements, earlier, rowOf, stands, rows, later, draw}
-use Rattle.lister.specs.ItemThree.{past, atStart, answers, ItemThree}
+use Rattle.lister.specs.ItemThree.{past, atStart, answers}
 use Rattle.lister.proofs.RowOrder.{earlier-order, rowOf-apart}
-use Rattle.sequences.specs.Ascending.{Once}
+use Rattle.sequences.specs.Ascending.{Ascending, Once}
 use Rattle.sequences.specs.Draws.{betterIf, Cursors}
 use Rattle.sequences.specs.Lists.{keep, find, sort}
 use Rattle.sequences.proofs.Ascending.{keep-once, map-once}
@@ -27,7 +28,7 @@ use Rattle.sequences.proofs.Sorting.{sort-members, sort-ascends}
 
 -- the cursors of rows
 cursors : Cursors earlier later past
-cursors = record { upward = λ c. upward (c .start) (record { cost = c .cost; placement = c .placement }); after = λ r s. refl }
+cursors = record { after = λ r s. refl; upward = λ c. upward (c .start) (record { cost = c .cost; placement = c .placement }) }
   where
     upward : (start : Bool) (last r s : Row) → (start || earlier last r) ≡ true → earlier r s ≡ true → (start || earlier last s) ≡ true
     upward true last r s p q = refl
@@ -55,15 +56,21 @@ module _ (d : Description) where
     λ (p, i, s, e). Memᴰ·cast (sym e) (Memᴰ·map (rowOf d) (keep-members (stands d) (securePlacements d) p .1 (i, s))),
   )
 
-  -- the answers of draws in a row are the rows and then finished; the rows rise, and are those of the placements that stand
-  pub item-three : ItemThree d
+  -- the answers of draws in a row are the rows and then finished
+  pub answers-rows : (n : ℕ) → answers d n ≡ take n (map some (rows d) ++ replicate n none)
   unfolding answers draw rows
-  item-three = record {
-    drawn = λ n. draws-answer earlier-order cursors (draw d) unsorted (λ c. find-least earlier-order (later c) unsorted)
-        unsorted-once atStart (λ r. refl) n n (le-refl n);
-    rising = sort-ascends earlier-order unsorted unsorted-once;
-    standing = λ r. Iff·trans (sort-members earlier unsorted r) (unsorted-members r);
-  }
+  answers-rows n = draws-answer earlier-order cursors (draw d) unsorted (λ c. find-least earlier-order (later c) unsorted)
+      unsorted-once atStart (λ r. refl) n n (le-refl n)
+
+  -- the rows rise strictly
+  pub rows-rise : Ascending earlier (rows d)
+  unfolding rows
+  rows-rise = sort-ascends earlier-order unsorted unsorted-once
+
+  -- they are the rows of the secure placements that stand for their options
+  pub rows-standing : (r : Row) → List·Memᴰ r (rows d) ↔ ((p : List ℕ) × List·Memᴰ p (securePlacements d) × (stands d p ≡ true) × (rowOf d p ≡ r))
+  unfolding rows
+  rows-standing r = Iff·trans (sort-members earlier unsorted r) (unsorted-members r)
 
 -- a draw is one walk over the candidates: of those that are secure and stand for their options, it keeps the first past the cursor
 pub draw-walks : (d : Description) (c : Cursor)

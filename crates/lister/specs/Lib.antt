@@ -1,4 +1,8 @@
+pub mod Answers
+pub mod Building
 pub mod Calls
 pub mod Interview
 pub mod ItemThree
+pub mod Joining
 pub mod Rows
+pub mod Seeing

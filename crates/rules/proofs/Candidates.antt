@@ -2,20 +2,21 @@
 use Prim.Native.Nat.{ℕ, _≤_, _<_}
 use native.Mathlib.Decide.{decLt}
 use native.Mathlib.Omega.{arith}
-use mathlib.Core.Path.{_≡_, ap, subst⁻¹, _∙_}
+use mathlib.Core.Path.{_≡_, refl, ap, subst⁻¹, _∙_}
 use mathlib.Core.Logic.{_↔_, Iff·trans}
+use mathlib.Core.Bool.{true}
 use mathlib.Core.List.{List, [], map, List·Memᴰ, Memᴰ·of-map}
 use lib.Dec.{ltb}
 use lib.ListN.{length, getD}
 use Rattle.description.specs.Format.{Description}
 use Rattle.rules.specs.Soundness.{candidates, choicesOf, count, mayStand, positions}
-use Rattle.rules.specs.Placements.{judge}
+use Rattle.rules.specs.Placements.{judge, secure}
 use Rattle.rules.specs.Statements.{Good, Placed}
 use Rattle.rules.proofs.Deciding.{may-stand, position-at}
-use Rattle.rules.proofs.Judging.{never-13}
+use Rattle.rules.proofs.Judging.{never-13, judge-candidate}
 use Rattle.sequences.specs.Ascending.{Ascending, Once}
-use Rattle.sequences.specs.Lists.{below, before, product}
-use Rattle.sequences.specs.Results.{refused}
+use Rattle.sequences.specs.Lists.{keep, below, before, sequences}
+use Rattle.sequences.specs.Results.{ok, refused}
 use Rattle.sequences.proofs.Ascending.{keep-ascends, from-ascends}
 use Rattle.sequences.proofs.Choices.{length-sequences, sequences-members, sequences-ascend, sequences-once}
 use Rattle.sequences.proofs.Members.{keep-members, below-members, getD-map}
@@ -24,11 +25,6 @@ use Rattle.sequences.proofs.Members.{keep-members, below-members, getD-map}
 pub count-is-length : (d : Description) → length (candidates d) ≡ count d
 unfolding candidates count
 count-is-length d = length-sequences (map (choicesOf d) positions)
-
--- the candidates number the product of the choices at the sixteen positions
-pub candidates-number : (d : Description) → length (candidates d) ≡ product (map (λ b. length (choicesOf d b)) positions)
-unfolding count
-candidates-number d = count-is-length d
 
 module _ (d : Description) (few : length (d .clouds) ≤ 8) where
   -- a good position has a cloud below 8
@@ -64,6 +60,13 @@ module _ (d : Description) (few : length (d .clouds) ≤ 8) where
     λ (size, never). (size, never-13 d p .0 never),
   )
 
+  -- those that are secure are the lists of sixteen clouds that Judge says are secure
+  pub candidates-secure : (p : List ℕ) → (List·Memᴰ p (candidates d) × (secure d p ≡ true)) ↔ ((length p ≡ 16) × (judge d p ≡ ok tt))
+  candidates-secure p = (
+    λ (m, safe). let (size, placed) = candidates-placed p .0 m in (size, judge-candidate d p .1 (placed, safe)),
+    λ (size, judged). let (placed, safe) = judge-candidate d p .0 judged in (candidates-placed p .1 (size, placed), safe),
+  )
+
 choices-ascend : (d : Description) (c : List ℕ) → List·Memᴰ c (map (choicesOf d) positions) → Ascending ltb c
 unfolding choicesOf
 choices-ascend d c m = let (b, i, e) = Memᴰ·of-map (choicesOf d) positions m in rw (← e) (keep-ascends ltb (mayStand d b) (below 8) (from-ascends 0 8))
@@ -77,3 +80,8 @@ candidates-ascend d = sequences-ascend (map (choicesOf d) positions) (choices-as
 pub candidates-once : (d : Description) → Once (candidates d)
 unfolding candidates
 candidates-once d = sequences-once (map (choicesOf d) positions) (choices-ascend d)
+
+-- the candidates are the choices of one cloud for each of the sixteen positions, and a position's clouds those below 8 that it may have
+pub candidates-choices : (d : Description) → candidates d ≡ sequences (map (λ b. keep (mayStand d b) (below 8)) positions)
+unfolding candidates choicesOf
+candidates-choices d = refl

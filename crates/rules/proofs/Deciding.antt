@@ -1,6 +1,5 @@
 -- The tests of the definitions decide what `specs/Statements.antt` says with plain orders and equations.
 use Prim.Native.Nat.{ℕ, _<_}
-use native.Mathlib.Nat.{zero-add}
 use native.Mathlib.Omega.{arith}
 use mathlib.Core.Path.{_≡_, refl, sym, ap, _∙_}
 use mathlib.Core.Logic.{_↔_}

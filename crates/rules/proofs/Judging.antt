@@ -3,44 +3,49 @@ use Prim.Native.Nat.{ℕ, _<_}
 use native.Mathlib.Omega.{arith}
 use mathlib.Core.Path.{_≡_, refl}
 use mathlib.Core.Logic.{_↔_, Iff·trans, Iff·and}
+use mathlib.Core.Bool.{true, cond}
 use mathlib.Core.List.{List}
 use mathlib.Core.Option.{Option, none, some}
+use borrow.Author.Tests.{not-true}
 use Rattle.description.specs.declared.workflow.Way.the-variants.{Reads, Writes}
 use Rattle.description.specs.Format.{Description}
 use Rattle.rules.specs.Soundness.{positions, read}
-use Rattle.rules.specs.Placements.{badPosition, breaks16, breaks17, judge}
+use Rattle.rules.specs.Placements.{badPosition, breaks16, breaks17, judge, secure, broken16, broken17}
 use Rattle.rules.specs.Calls.{judgeCall}
 use Rattle.rules.specs.Statements.{Good, Placed, AllKeep, FirstBreaks, Secure}
 use Rattle.rules.proofs.Deciding.{none-bad, first-bad, none-breaks, first-breaks}
 use Rattle.sequences.specs.Lists.{first}
-use Rattle.sequences.specs.Results.{Result, ok, refused, unless}
+use Rattle.sequences.specs.Results.{Result, ok, refused, numberOf, unless}
+use Rattle.sequences.proofs.First.{none-found, some-found}
+use Rattle.sequences.proofs.Tests.{both-pass}
 use Rattle.sequences.proofs.Results.{unless-ok, unless-here, unless-later, ok-not-refused, andThen-ok}
 
 module _ (d : Description) (p : List ℕ) where
+  -- the first bad position, and the first edges that break rules 16 and 17
   abbrev bad : Option ℕ
   bad = first (badPosition d p) positions
 
-  abbrev broken16 : Option ℕ
-  broken16 = first (breaks16 d p) (d .edges)
+  abbrev first16 : Option ℕ
+  first16 = first (breaks16 d p) (d .edges)
 
-  abbrev broken17 : Option ℕ
-  broken17 = first (breaks17 d p) (d .edges)
+  abbrev first17 : Option ℕ
+  first17 = first (breaks17 d p) (d .edges)
 
   -- what is tried after 14, and after 13
   abbrev from15 : Result (Unit {0})
-  from15 = unless broken17 15 (ok tt)
+  from15 = unless first17 15 (ok tt)
 
   abbrev from14 : Result (Unit {0})
-  from14 = unless broken16 14 from15
+  from14 = unless first16 14 from15
 
   -- by the three searches
-  secure-if : (judge d p ≡ ok tt) ↔ ((bad ≡ none) × (broken16 ≡ none) × (broken17 ≡ none))
+  secure-if : (judge d p ≡ ok tt) ↔ ((bad ≡ none) × (first16 ≡ none) × (first17 ≡ none))
   unfolding judge
   secure-if = (
     λ e.
         let (none13, e14) = unless-ok bad 13 from14 tt .0 e in
-        let (none14, e15) = unless-ok broken16 14 from15 tt .0 e14 in
-        (none13, none14, unless-ok broken17 15 (ok tt) tt .0 e15 .0),
+        let (none14, e15) = unless-ok first16 14 from15 tt .0 e14 in
+        (none13, none14, unless-ok first17 15 (ok tt) tt .0 e15 .0),
     λ (none13, none14, none15). rw (none13, none14, none15) refl,
   )
 
@@ -48,27 +53,27 @@ module _ (d : Description) (p : List ℕ) where
   unfolding judge
   refused13-if b = (
     unless-here bad 13 b from14 (λ e.
-        let (none14, e15) = unless-later broken16 14 13 b from15 (omega arith) e in
-        ok-not-refused (unless-later broken17 15 13 b (ok tt) (omega arith) e15 .1)),
+        let (none14, e15) = unless-later first16 14 13 b from15 (omega arith) e in
+        ok-not-refused (unless-later first17 15 13 b (ok tt) (omega arith) e15 .1)),
     λ found. rw found refl,
   )
 
-  refused14-if : (n : ℕ) → (judge d p ≡ refused 14 n) ↔ ((bad ≡ none) × (broken16 ≡ some n))
+  refused14-if : (n : ℕ) → (judge d p ≡ refused 14 n) ↔ ((bad ≡ none) × (first16 ≡ some n))
   unfolding judge
   refused14-if n = (
     λ e.
         let (none13, e14) = unless-later bad 13 14 n from14 (omega arith) e in
-        (none13, unless-here broken16 14 n from15 (λ h. ok-not-refused (unless-later broken17 15 14 n (ok tt) (omega arith) h .1)) e14),
+        (none13, unless-here first16 14 n from15 (λ h. ok-not-refused (unless-later first17 15 14 n (ok tt) (omega arith) h .1)) e14),
     λ (none13, found). rw (none13, found) refl,
   )
 
-  refused15-if : (n : ℕ) → (judge d p ≡ refused 15 n) ↔ ((bad ≡ none) × (broken16 ≡ none) × (broken17 ≡ some n))
+  refused15-if : (n : ℕ) → (judge d p ≡ refused 15 n) ↔ ((bad ≡ none) × (first16 ≡ none) × (first17 ≡ some n))
   unfolding judge
   refused15-if n = (
     λ e.
         let (none13, e14) = unless-later bad 13 15 n from14 (omega arith) e in
-        let (none14, e15) = unless-later broken16 14 15 n from15 (omega arith) e14 in
-        (none13, none14, unless-here broken17 15 n (ok tt) ok-not-refused e15),
+        let (none14, e15) = unless-later first16 14 15 n from15 (omega arith) e14 in
+        (none13, none14, unless-here first17 15 n (ok tt) ok-not-refused e15),
     λ (none13, none14, found). rw (none13, none14, found) refl,
   )
 
@@ -81,6 +86,34 @@ module _ (d : Description) (p : List ℕ) where
         record { placed = none-bad d p .0 none13; rule16 = none-breaks Reads d p .0 none14; rule17 = none-breaks Writes d p .0 none15 },
     λ s. secure-if .1 (none-bad d p .1 (s .placed), none-breaks Reads d p .1 (s .rule16), none-breaks Writes d p .1 (s .rule17)),
   )
+
+  -- By the tests of a candidate: no position is bad, and it passes `secure`.
+  pub judge-candidate : (judge d p ≡ ok tt) ↔ (Placed d p × (secure d p ≡ true))
+  judge-candidate = (
+    λ e.
+        let (none13, none14, none15) = secure-if .0 e in
+        let keeps16 = none-found (breaks16 d p) (d .edges) .0 none14 in
+        let keeps17 = none-found (breaks17 d p) (d .edges) .0 none15 in
+        (none-bad d p .0 none13, rw (keeps16, keeps17) refl),
+    λ (placed, safe).
+        let (keeps16, keeps17) = both-pass _ _ .0 safe in
+        secure-if .1 (
+          none-bad d p .1 placed,
+          none-found (breaks16 d p) (d .edges) .1 (not-true _ keeps16),
+          none-found (breaks17 d p) (d .edges) .1 (not-true _ keeps17),
+        ),
+  )
+
+  -- Where no position is bad, Judge's number is 14 for what breaks rule 16, else 15 for what breaks rule 17, else 0: it is secure.
+  pub judge-number : Placed d p → numberOf (judge d p) ≡ cond (broken16 d p) 14 (cond (broken17 d p) 15 0)
+  unfolding judge
+  judge-number placed = rw (none-bad d p .1 placed) (go first16 first17 refl refl)
+    where
+      go : (o16 o17 : Option ℕ) → first16 ≡ o16 → first17 ≡ o17
+          → numberOf (unless o16 14 (unless o17 15 (ok (tt {0})))) ≡ cond (broken16 d p) 14 (cond (broken17 d p) 15 0)
+      go (some n) o17 e f = rw (some-found (breaks16 d p) (d .edges) n e) refl
+      go none (some n) e f = rw (none-found (breaks16 d p) (d .edges) .0 e, some-found (breaks17 d p) (d .edges) n f) refl
+      go none none e f = rw (none-found (breaks16 d p) (d .edges) .0 e, none-found (breaks17 d p) (d .edges) .0 f) refl
 
   -- 13 at the lowest bad position.
   pub judge-13 : (b : ℕ) → (judge d p ≡ refused 13 b) ↔ ((b < 16) × (Good d p b → ⊥) × ((i : ℕ) → i < b → Good d p i))

@@ -2,7 +2,15 @@ pub mod Accepted
 pub mod Candidates
 pub mod CostBound
 pub mod Deciding
+pub mod Ends
 pub mod Judging
+pub mod Locality
+pub mod Mixing
+pub mod Moving
+pub mod Options
+pub mod Paths
 pub mod Reached
-pub mod SameOption
+pub mod Representatives
+pub mod Storage
 pub mod Transferring
+pub mod Weights

@@ -1,25 +1,23 @@
 -- Transfers, edge by edge: the first edge's own, then those of the rest; and their bytes, four for each.
-use Prim.Native.Nat.{ℕ, zero, suc, _+_, _*_, _≤_, _<_}
-use native.Mathlib.Nat.{suc-mul, zero-mul, add-zero}
+use Prim.Native.Nat.{ℕ, suc, _+_, _*_, _≤_, _<_}
+use native.Mathlib.Nat.{suc-mul, zero-mul}
 use native.Mathlib.Numerals.{add-one}
 use native.Mathlib.Omega.{arith}
 use mathlib.Core.Path.{_≡_, refl, sym, ap, _∙_}
 use mathlib.Core.Bool.{Bool, true, false, cond}
-use mathlib.Core.List.{List, [], _∷_, _++_, map, map-append, append-nil, append-assoc}
+use mathlib.Core.List.{List, [], _∷_, _++_, map, append-nil, append-assoc}
 use lib.ListN.{length, getD, take, drop, length-append, take-append-drop, drop-of-length-le}
 use borrow.Author.Tests.{lt-ltb, le-ltb}
 use lib.Seq.{sets, sets-eq, length-sets, length-take-le, take-at, drop-at, drop-drop}
 use Rattle.description.specs.declared.workflow.Edge.{Edge}
 use Rattle.description.specs.Format.{Description, noEdge}
-use Rattle.rules.specs.Answers.{edgeCost}
 use Rattle.rules.specs.Calls.{fitted}
-use Rattle.rules.specs.Cost.{transferCost}
+use Rattle.rules.specs.Cost.{transferCost, edgeCost}
 use Rattle.rules.specs.Placements.{moves}
 use Rattle.rules.specs.Transfers.{Transfer, transferOf, transfersFrom, bytesOf}
-use Rattle.sequences.specs.Results.{Result, ok, refused}
+use Rattle.sequences.specs.Results.{ok, refused}
 use Rattle.sequences.specs.Lists.{sum}
-use Rattle.sequences.proofs.Loops.{rest}
-use Rattle.sequences.proofs.Sums.{sum-append}
+use Rattle.sequences.proofs.Loops.{rest, sum-next}
 
 -- the edge's own transfer, if it makes one, comes before those of the edges behind it
 pub own-first : (n : ℕ) (p : List ℕ) (e : Edge) (es : List Edge) → transfersFrom n p (e ∷ es) ≡ transfersFrom n p (e ∷ []) ++ transfersFrom (suc n) p es
@@ -116,20 +114,22 @@ too-short n ts h = simp (lt-ltb _ _ h)
 pub long-enough : (n : ℕ) (ts : List Transfer) → length (bytesOf ts) ≤ n → fitted n ts ≡ ok ts
 long-enough n ts h = simp (le-ltb _ _ h)
 
--- an edge's own transfers cost what the edge costs
-pub own-cost : (d : Description) (n : ℕ) (p : List ℕ) (e : Edge) → sum (map (transferCost d) (transfersFrom n p (e ∷ []))) ≡ edgeCost d p e
-own-cost d n p e = go (moves p e)
+-- what the transfers cost is summed edge by edge: a transfer's cost does not go by the edge's number
+pub transfers-by-edge : (d : Description) (p : List ℕ) (n : ℕ) (es : List Edge) → sum (map (transferCost d) (transfersFrom n p es)) ≡ sum (map (edgeCost d p) es)
+unfolding edgeCost
+transfers-by-edge d p n [] = refl
+transfers-by-edge d p n (e ∷ es) = step (moves p e) (transfers-by-edge d p (suc n) es)
   where
-    go : (b : Bool) → sum (map (transferCost d) (cond b (transferOf n p e ∷ []) [])) ≡ cond b (transferCost d (transferOf 0 p e)) 0
-    go true = add-zero _
-    go false = refl
+    step : (t : Bool) → sum (map (transferCost d) (transfersFrom (suc n) p es)) ≡ sum (map (edgeCost d p) es)
+        → sum (map (transferCost d) (cond t (transferOf n p e ∷ transfersFrom (suc n) p es) (transfersFrom (suc n) p es)))
+        ≡ cond t (transferCost d (transferOf 0 p e)) 0 + sum (map (edgeCost d p) es)
+    step true h = omega (arith, h)
+    step false h = omega (arith, h)
 
 -- from edge i on: what edge i costs, and the rest
 pub cost-next : (d : Description) (p : List ℕ) (es : List Edge) (i : ℕ) → i < length es
     → sum (map (transferCost d) (transfersFrom i p (drop i es))) ≡
     edgeCost d p (getD es i noEdge) + sum (map (transferCost d) (transfersFrom (i + 1) p (drop (i + 1) es)))
 cost-next d p es i h =
-    ap (λ l. sum (map (transferCost d) l)) (from-next p es i h) ∙
-    ap sum (map-append (transferCost d) (transfersFrom i p (getD es i noEdge ∷ [])) (transfersFrom (i + 1) p (drop (i + 1) es))) ∙
-    sum-append (map (transferCost d) (transfersFrom i p (getD es i noEdge ∷ []))) (map (transferCost d) (transfersFrom (i + 1) p (drop (i + 1) es))) ∙
-    ap (λ x. x + sum (map (transferCost d) (transfersFrom (i + 1) p (drop (i + 1) es)))) (own-cost d i p (getD es i noEdge))
+    transfers-by-edge d p i (drop i es) ∙ sum-next (edgeCost d p) es noEdge i h ∙
+    ap (λ (n : ℕ). edgeCost d p (getD es i noEdge) + n) (sym (transfers-by-edge d p (i + 1) (drop (i + 1) es)))

@@ -1,6 +1,6 @@
 -- The answers of the calls, each an enum: for every case document 01's number and values.
 use Prim.Native.Nat.{ℕ}
-use mathlib.Core.Bool.{Bool, cond}
+use mathlib.Core.Bool.{Bool}
 use mathlib.Core.List.{List}
 use mathlib.Core.Option.{Option, none, some}
 use Rattle.description.specs.declared.workflow.Edge.{Edge}
@@ -19,10 +19,9 @@ use Rattle.rules.specs.declared.answers.Charge.{Charge}
 use Rattle.rules.specs.declared.answers.Charge.the-variants.{Storage, Cpu}
 use Rattle.description.specs.declared.workflow.Cloud.{Cloud}
 use Rattle.description.specs.declared.workflow.Kind.{Kind}
-use Rattle.rules.specs.Cost.{storageOf, cpuOf, transferCost}
-use Rattle.rules.specs.Transfers.{transferOf}
+use Rattle.rules.specs.Cost.{storageOf, cpuOf}
 use Rattle.rules.specs.Soundness.{breaks3, breaks4}
-use Rattle.rules.specs.Placements.{moves, breaks16, breaks17}
+use Rattle.rules.specs.Placements.{breaks16, breaks17}
 use Rattle.rules.specs.Calls.{Counts}
 use Rattle.sequences.specs.Results.{Result, ok, refused}
 
@@ -57,7 +56,3 @@ breaksRule Rule17 d p = breaks17 d p
 abbrev pub amountOf : Charge → Cloud → Kind → ℕ
 amountOf Storage = storageOf
 amountOf Cpu = cpuOf
-
--- inside the crate: what the transfer of one edge is charged, 0 where it makes none
-abbrev pub edgeCost : Description → List ℕ → Edge → ℕ
-edgeCost d p e = cond (moves p e) (transferCost d (transferOf 0 p e)) 0

@@ -1,6 +1,6 @@
 -- The calls Read, Judge and Transfers: each takes the description's bytes and first gives what Read refuses.
 use Prim.Native.Nat.{ℕ}
-use mathlib.Core.Bool.{Bool, cond}
+use mathlib.Core.Bool.{cond}
 use mathlib.Core.List.{List, _++_}
 use lib.ListN.{length, drop}
 use lib.Dec.{ltb}

@@ -6,6 +6,8 @@ pub mod Inputs
 pub mod Options
 pub mod Placements
 pub mod Reached
+pub mod Representatives
 pub mod Soundness
 pub mod Statements
+pub mod Terms
 pub mod Transfers

@@ -37,9 +37,12 @@ abbrev pub part : Description → List ℕ → ℕ → Kind → List (List ℕ)
 part d p n (Service clearance units) = (getD p n 0 ∷ []) ∷ []
 part d p n (Datum size longevity) = joined (stem d p n) (map (branch p) (readersOf d n))
 
+abbrev pub partOf : Description → List ℕ → ℕ → List (List ℕ)
+partOf d p n = part d p n (block d n .kind)
+
 -- Document 01's "option": two placements are the same one when every block's part is equal.
 unfoldable pub option : Description → List ℕ → List (List (List ℕ))
-option d p = map (λ n. part d p n (block d n .kind)) (below (length (d .blocks)))
+option d p = map (partOf d p) (below (length (d .blocks)))
 
 unfoldable pub sameOption : Description → List ℕ → List ℕ → Bool
 sameOption d p q = equalBy (equalBy same) (option d p) (option d q)

@@ -1,14 +1,14 @@
 -- Judging one placement, sixteen cloud numbers: refusals 13 to 15.
-use Prim.Native.Nat.{ℕ, zero, suc}
-use mathlib.Core.Bool.{Bool, true, false, not, _&&_, _||_}
-use mathlib.Core.List.{List, [], _∷_}
+use Prim.Native.Nat.{ℕ}
+use mathlib.Core.Bool.{Bool, not, _&&_}
+use mathlib.Core.List.{List}
 use lib.ListN.{getD}
 use lib.Dec.{eqb}
 use Rattle.description.specs.declared.workflow.Edge.{Edge}
 use Rattle.description.specs.Format.{Description, isWrite}
 use Rattle.rules.specs.Soundness.{covers, cloudLevel, blockLevel, mayStand, positions}
 use Rattle.sequences.specs.Lists.{any, first}
-use Rattle.sequences.specs.Results.{Result, ok, refused, unless}
+use Rattle.sequences.specs.Results.{Result, ok, unless}
 
 -- the clouds of an edge's service and of its datum
 abbrev pub serviceCloud : List ℕ → Edge → ℕ

@@ -1,11 +1,10 @@
 -- The rules on the workflow itself, where each block may stand, and what Read gives: refusals 9 to 12 after those of decoding.
-use Prim.Native.Nat.{ℕ, zero, suc, _+_, _*_}
-use mathlib.Core.Bool.{Bool, true, false, not, _&&_, _||_, cond}
-use mathlib.Core.List.{List, [], _∷_, map}
+use Prim.Native.Nat.{ℕ}
+use mathlib.Core.Bool.{Bool, true, false, not, _&&_, cond}
+use mathlib.Core.List.{List, map}
 use mathlib.Core.Option.{Option, none, some}
 use lib.ListN.{length}
 use lib.Dec.{ltb, leb, eqb}
-use Rattle.description.specs.declared.workflow.Cloud.{Cloud}
 use Rattle.description.specs.declared.workflow.Block.{Block}
 use Rattle.description.specs.declared.workflow.Kind.{Kind}
 use Rattle.description.specs.declared.workflow.Kind.the-variants.{Datum, Service}
@@ -14,7 +13,7 @@ use Rattle.description.specs.declared.workflow.Pin.the-variants.{Free, To}
 use Rattle.description.specs.declared.workflow.Edge.{Edge}
 use Rattle.description.specs.Format.{Description, cloud, block, isWrite, namesCloud, namesBlock, decode}
 use Rattle.sequences.specs.Lists.{keep, first, below, sequences, product}
-use Rattle.sequences.specs.Results.{Result, ok, refused, unless, andThen}
+use Rattle.sequences.specs.Results.{Result, ok, unless, andThen}
 
 -- One level is at least as high as another: each ≥ between levels, locations and clearances in the rules is this.
 unfoldable pub covers : ℕ → ℕ → Bool

@@ -6,8 +6,8 @@ ghost use Prim.Native.Nat.{_≤_, _<_, _*_, _^_};
 ghost use lib.ListN.{length, getD};
 ghost use Rattle.sequences.specs.Lists.{sum};
 ghost use Rattle.description.specs.Meaning.{describes};
-ghost use Rattle.rules.specs.Answers.{amountOf, edgeCost};
-ghost use Rattle.rules.specs.Cost.{gigabytes, chargedOf, storageOf, cpuOf, ofBlocks, transferCost, cost};
+ghost use Rattle.rules.specs.Answers.{amountOf};
+ghost use Rattle.rules.specs.Cost.{gigabytes, chargedOf, storageOf, cpuOf, ofBlocks, transferCost, edgeCost, cost};
 ghost use Rattle.rules.specs.Transfers.{transfers, transfersFrom};
 use crate::answers::Charge;
 use crate::placements::cloud_of;
@@ -33,7 +33,7 @@ pub fn gigabytes(size: u16) -> u64
     (size as u64 + 9) / 10
 }
 
-fn charged_of(k: Kind) -> u64
+pub fn charged_of(k: Kind) -> u64
     ensures { λ r. ⌜ r ≡ chargedOf k ⌝ }
     ensures { λ r. ⌜ r ≤ 6554 ⌝ }
 {

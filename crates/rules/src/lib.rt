@@ -12,6 +12,7 @@ pub mod answers;
 pub mod cost;
 pub mod placements;
 pub mod soundness;
+pub mod terms;
 pub mod transfer;
 
 use answers::Acceptance;

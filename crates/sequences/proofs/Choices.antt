@@ -9,6 +9,7 @@ use mathlib.Core.List.{List·Memᴰ, List·Memᴰ·head, List·Memᴰ·tail, Lis
 use mathlib.Core.List.{List·Memᴰ·append-cases, Memᴰ·append-left, Memᴰ·append-right, Memᴰ·map, Memᴰ·of-map, Memᴰ·cast}
 use lib.Dec.{ltb}
 use lib.ListN.{length, getD, length-append, length-map}
+use borrow.Author.Tests.{ltb-true}
 use Rattle.sequences.specs.Ascending.{Ascending, Once}
 use Rattle.sequences.specs.Lists.{prefixed, sequences, product, before}
 use Rattle.sequences.proofs.Ascending.{append-ascends, map-ascends, ascending-once}
@@ -68,7 +69,7 @@ prefixed-ascends rest (k ∷ ks) r a = append-ascends before (map (λ q. k ∷ q
     (λ x y m n.
     let (q, i, e) = Memᴰ·of-map (λ (q : List ℕ). k ∷ q) rest m in
     let (l, u, j, o, f) = prefixed-to rest ks y n in
-    rw (← e, f) (before-lower k l q u (a .0 l j)))
+    rw (← e, f) (before-lower k l q u (ltb-true k l (a .0 l j))))
 
 -- if each list ascends, the choices ascend lexicographically
 pub sequences-ascend : (cs : List (List ℕ)) → ((c : List ℕ) → List·Memᴰ c cs → Ascending ltb c) → Ascending before (sequences cs)

@@ -3,7 +3,7 @@
 use Prim.Native.Nat.{ℕ, zero, suc, _≤_}
 use native.Mathlib.Nat.{le-of-suc-le-suc, not-suc-le-zero}
 use native.Mathlib.Omega.{arith}
-use mathlib.Core.Path.{_≡_, refl, sym, ap, _∙_}
+use mathlib.Core.Path.{_≡_, refl, sym, ap, ap₂, _∙_}
 use mathlib.Core.Logic.{_↔_, _⊎_, inl, inr}
 use mathlib.Core.Bool.{Bool, true, false, _&&_, true≢false}
 use mathlib.Core.Option.{Option, none, some}
@@ -12,7 +12,7 @@ use mathlib.Core.List.{List·Memᴰ, List·Memᴰ·head, List·Memᴰ·tail, Lis
 use lib.ListN.{take, replicate}
 use borrow.Author.Tests.{not-true}
 use Rattle.sequences.specs.Ascending.{Ascending, Rising, Once}
-use Rattle.sequences.specs.Draws.{better, betterIf, bestOf, chained, Cursors}
+use Rattle.sequences.specs.Draws.{better, betterIf, bestOf, moved, chained, Cursors}
 use Rattle.sequences.specs.Lists.{keep, find, sort}
 use Rattle.sequences.specs.Orders.{StrictOrder, Least}
 use Rattle.sequences.proofs.Orders.{asymmetric, least-unique}
@@ -166,7 +166,7 @@ module _ {A C : Type 0} {test : A → A → Bool} (order : StrictOrder test) {la
     λ p. let t = sym (cursors .after x z) ∙ p .1 in ((p .0, cursors .upward c x z (k .members x .0 (List·Memᴰ·head refl) .1) t), t),
   ))
 
-  drawn : (n m : ℕ) → n ≤ m → (c : C) (l : List A) → InOrder test (Left c) l → chained draw past c n ≡ take n (map some l ++ replicate m none)
+  drawn : (n m : ℕ) → n ≤ m → (c : C) (l : List A) → InOrder test (Left c) l → chained draw (moved past) c n ≡ take n (map some l ++ replicate m none)
   drawn zero m h c l k = refl
   drawn (suc n) zero h c l k = absurd (not-suc-le-zero h)
   drawn (suc n) (suc m) h c [] k = rw (draw-head c [] k) (ap (λ (r : List (Option A)). none ∷ r) (drawn n m (le-of-suc-le-suc h) c [] k))
@@ -176,8 +176,16 @@ module _ {A C : Type 0} {test : A → A → Bool} (order : StrictOrder test) {la
   -- Where each draw answers the least element past its cursor, n draws in a row, the first from a cursor that all elements are past,
   -- answer the first n of: the elements in order, and then none each time.
   pub draws-answer : Once xs → (start : C) → ((x : A) → later start x ≡ true)
-      → (n m : ℕ) → n ≤ m → chained draw past start n ≡ take n (map some (sort test xs) ++ replicate m none)
+      → (n m : ℕ) → n ≤ m → chained draw (moved past) start n ≡ take n (map some (sort test xs) ++ replicate m none)
   draws-answer once start all n m h = drawn n m h start (sort test xs) (record {
     ascends = sort-ascends order xs once;
     members = λ z. (λ k. (sort-members test xs z .0 k, all z), λ k. sort-members test xs z .1 (k .0));
   })
+
+-- Draws whose every answer is made by f of another draw's, and leads to the same cursor: the answers in a row are made by f.
+module _ {A B C : Type 0} (f : A → B) (draw : C → A) (next : C → A → C) (draw′ : C → B) (next′ : C → B → C)
+    (made : (c : C) → draw′ c ≡ f (draw c)) (leads : (c : C) (a : A) → next′ c (f a) ≡ next c a) where
+  pub chained-map : (c : C) (n : ℕ) → chained draw′ next′ c n ≡ map f (chained draw next c n)
+  chained-map c zero = refl
+  chained-map c (suc n) = ap₂ _∷_ (made c)
+      (ap (λ (k : C). chained draw′ next′ k n) (ap (next′ c) (made c) ∙ leads c (draw c)) ∙ chained-map (next c (draw c)) n)

@@ -2,14 +2,14 @@
 use Prim.Native.Nat.{ℕ, zero, suc, _<_}
 use native.Mathlib.Nat.{not-suc-le-zero, le-of-suc-le-suc, zero-lt-suc}
 use native.Mathlib.Omega.{arith}
-use mathlib.Core.Path.{_≡_, refl, ap, subst, _∙_}
+use mathlib.Core.Path.{_≡_, refl, sym, ap, subst, _∙_}
 use mathlib.Core.Logic.{_↔_}
-use mathlib.Core.Bool.{Bool, true, false, cond}
+use mathlib.Core.Bool.{Bool, true, false, cond, _||_, true≢false}
 use mathlib.Core.List.{List, [], _∷_}
-use mathlib.Core.Option.{Option, none, some, Option·map}
+use mathlib.Core.Option.{Option, none, some, Option·map, Option·some-ne-none}
 use lib.ListN.{length, getD}
-use Rattle.sequences.specs.Lists.{first, firstFrom}
-use Rattle.sequences.proofs.Tests.{cond-ind}
+use Rattle.sequences.specs.Lists.{any, first, firstFrom}
+use Rattle.sequences.proofs.Tests.{cond-ind, not-failed}
 
 module _ {A : Type 0} (test : A → Bool) (default : A) where
   -- what is to be shown of a position that is found, and of none
@@ -56,3 +56,21 @@ module _ {A : Type 0} (test : A → Bool) (default : A) where
   -- nothing is found exactly where every element fails
   pub first-none : (xs : List A) → (first test xs ≡ none) ↔ ((i : ℕ) → i < length xs → test (getD xs i default) ≡ false)
   first-none xs = (λ e. subst (IsFirst xs) e (found-is-first xs), first-is-found xs none)
+
+module _ {A : Type 0} (test : A → Bool) where
+  none-from : (n : ℕ) (xs : List A) → (firstFrom n test xs ≡ none) ↔ (any test xs ≡ false)
+  none-from n [] = (λ _. refl, λ _. refl)
+  none-from n (x ∷ xs) = step (test x) (none-from (suc n) xs)
+    where
+      step : (t : Bool) → (firstFrom (suc n) test xs ≡ none) ↔ (any test xs ≡ false)
+          → (cond t (some n) (firstFrom (suc n) test xs) ≡ none) ↔ ((t || any test xs) ≡ false)
+      step true h = (λ e. absurd (Option·some-ne-none n e), λ e. absurd (true≢false e))
+      step false h = h
+
+  -- nothing is found exactly where no element passes
+  pub none-found : (xs : List A) → (first test xs ≡ none) ↔ (any test xs ≡ false)
+  none-found = none-from 0
+
+  -- where something is found, some element passes
+  pub some-found : (xs : List A) (n : ℕ) → first test xs ≡ some n → any test xs ≡ true
+  some-found xs n e = not-failed (any test xs) (λ f. Option·some-ne-none n (sym e ∙ none-found xs .1 f))

@@ -1,12 +1,16 @@
+pub mod Agreeing
 pub mod Ascending
 pub mod Choices
 pub mod Counting
 pub mod Distinct
 pub mod Draws
-pub mod Equivalences
+pub mod Equality
 pub mod First
+pub mod Grouping
+pub mod Lexicographic
 pub mod Loops
 pub mod Members
+pub mod Numbers
 pub mod Orders
 pub mod Parts
 pub mod Positions

@@ -13,18 +13,29 @@ use Rattle.sequences.specs.Lists.{before}
 use Rattle.sequences.specs.Orders.{StrictOrder, Least}
 use Rattle.sequences.proofs.Tests.{not-passed, both-pass, or-fails, or-passes}
 
--- `before` by the first numbers: the lower one decides, and of equal ones the rest
-pub before-lower : (x y : ℕ) (xs ys : List ℕ) → ltb x y ≡ true → before (x ∷ xs) (y ∷ ys) ≡ true
-before-lower x y xs ys h = simp h
+-- ---- `before` by the first numbers
 
+-- of equal ones the rest decides
 pub before-same : (x : ℕ) (xs ys : List ℕ) → before (x ∷ xs) (x ∷ ys) ≡ before xs ys
 before-same x xs ys = simp (le-ltb x x (omega arith), eq-eqb x x refl)
 
-before-cases : (x y : ℕ) (xs ys : List ℕ) → before (x ∷ xs) (y ∷ ys) ≡ true → (x < y) ⊎ ((x ≡ y) × (before xs ys ≡ true))
-before-cases x y xs ys e = elim (or-passes (ltb x y) (eqb x y && before xs ys) e) [
-  | inl t ↦ inl (ltb-true x y t)
-  | inr t ↦ let (s, r) = both-pass (eqb x y) (before xs ys) .0 t in inr (eqb-true x y s, r)
-]
+module _ (x y : ℕ) (xs ys : List ℕ) where
+  -- the lower one is before
+  pub before-lower : x < y → before (x ∷ xs) (y ∷ ys) ≡ true
+  before-lower l = simp (lt-ltb x y l)
+
+  -- of equal ones, what has the earlier rest
+  pub before-rest : x ≡ y → before xs ys ≡ true → before (x ∷ xs) (y ∷ ys) ≡ true
+  before-rest e t = rw e (before-same y xs ys ∙ t)
+
+  -- there is no other way to be before
+  pub before-cases : before (x ∷ xs) (y ∷ ys) ≡ true → (x < y) ⊎ ((x ≡ y) × (before xs ys ≡ true))
+  before-cases e = elim (or-passes (ltb x y) (eqb x y && before xs ys) e) [
+    | inl t ↦ inl (ltb-true x y t)
+    | inr t ↦ let (s, r) = both-pass (eqb x y) (before xs ys) .0 t in inr (eqb-true x y s, r)
+  ]
+
+-- ---- its laws
 
 -- no list is before itself
 pub before-irreflexive : (xs : List ℕ) → before xs xs ≡ false
@@ -39,15 +50,12 @@ before-transitive (x ∷ xs) [] zs p q = absurd (false≢true p)
 before-transitive (x ∷ xs) (y ∷ ys) [] p q = q
 before-transitive (x ∷ xs) (y ∷ ys) (z ∷ zs) p q = go (before-transitive xs ys zs) (before-cases x y xs ys p) (before-cases y z ys zs q)
   where
-    lower : x < z → before (x ∷ xs) (z ∷ zs) ≡ true
-    lower h = before-lower x z xs zs (lt-ltb x z h)
-
     go : (before xs ys ≡ true → before ys zs ≡ true → before xs zs ≡ true)
         → (x < y) ⊎ ((x ≡ y) × (before xs ys ≡ true)) → (y < z) ⊎ ((y ≡ z) × (before ys zs ≡ true)) → before (x ∷ xs) (z ∷ zs) ≡ true
-    go rest (inl a) (inl b) = lower (omega arith)
-    go rest (inl a) (inr b) = lower (omega arith)
-    go rest (inr a) (inl b) = lower (omega arith)
-    go rest (inr a) (inr b) = rw (a .0 ∙ b .0) (before-same z xs zs ∙ rest (a .1) (b .1))
+    go rest (inl a) (inl b) = before-lower x z xs zs (omega arith)
+    go rest (inl a) (inr b) = before-lower x z xs zs (omega arith)
+    go rest (inr a) (inl b) = before-lower x z xs zs (omega arith)
+    go rest (inr a) (inr b) = before-rest x z xs zs (a .0 ∙ b .0) (rest (a .1) (b .1))
 
 before-total : (xs ys : List ℕ) → before xs ys ≡ false → before ys xs ≡ false → xs ≡ ys
 before-total [] [] p q = refl
@@ -62,6 +70,8 @@ before-total (x ∷ xs) (y ∷ ys) p q =
 -- the lexicographic order of lists of numbers is strict
 pub before-order : StrictOrder before
 before-order = record { irreflexive = before-irreflexive; transitive = before-transitive; total = before-total }
+
+-- ---- any strict order
 
 -- elements that a map keeps apart are ordered strictly by what it makes of them
 pub pulled-back : {A B : Type 0} {test : B → B → Bool} (f : A → B) → ((x y : A) → f x ≡ f y → x ≡ y) → StrictOrder test

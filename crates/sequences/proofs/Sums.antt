@@ -1,4 +1,4 @@
--- Sums of bounded terms, and of two lists.
+-- Sums of bounded terms.
 use Prim.Native.Nat.{ℕ, _+_, _*_, _≤_}
 use native.Mathlib.Nat.{le-trans, suc-mul, mul-le-mul-right}
 use native.Mathlib.Omega.{arith}

@@ -6,7 +6,7 @@ use native.Mathlib.Omega.{arith}
 use native.Mathlib.Decide.{ℕ-discrete}
 use mathlib.Core.Path.{_≡_, refl, sym, _∙_}
 use mathlib.Core.Logic.{_↔_, _⊎_, inl, inr}
-use mathlib.Core.Bool.{Bool, true, false, cond, _&&_, _||_, true≢false, false≢true}
+use mathlib.Core.Bool.{Bool, true, false, cond, _&&_, _||_, true≢false, and-eq-true-iff}
 use mathlib.Core.Option.{Option, none, some}
 use mathlib.Core.List.{List, [], _∷_}
 use lib.ListN.{length, getD}
@@ -30,8 +30,12 @@ not-failed false f = absurd (f refl)
 
 -- both pass
 pub both-pass : (a b : Bool) → ((a && b) ≡ true) ↔ ((a ≡ true) × (b ≡ true))
-both-pass true b = (λ e. (refl, e), λ h. h .1)
-both-pass false b = (λ e. absurd (false≢true e), λ h. absurd (false≢true (h .0)))
+both-pass = and-eq-true-iff
+
+-- an `and` whose second part fails
+pub and-fails : (a b : Bool) → b ≡ false → (a && b) ≡ false
+and-fails true b e = e
+and-fails false b e = refl
 
 -- a choice of nothing: the test failed, and the other choice is nothing
 pub cond-none : {A : Type 0} (t : Bool) (a : A) (o : Option A) → cond t (some a) o ≡ none → (t ≡ false) × (o ≡ none)

@@ -24,16 +24,15 @@ module _ {A : Type 0} where
   abbrev pub betterIf : {B : Type 0} (test : A → A → Bool) (later : A → Bool) (t : B → Bool) (f : B → A) → Option A → B → Option A
   betterIf test later t f best b = cond (t b && later (f b) && beats test (f b) best) (some (f b)) best
 
-module _ {A C : Type 0} where
-  -- the cursor after an answer: past the element answered; where there was none, as it was
-  abbrev pub moved : (past : A → C) → C → Option A → C
-  moved past c none = c
-  moved past c (some x) = past x
+-- the cursor after an answer: past the element answered; where there was none, as it was
+abbrev pub moved : {A C : Type 0} (past : A → C) → C → Option A → C
+moved past c none = c
+moved past c (some x) = past x
 
-  -- the answers of n draws, the first from cursor c
-  abbrev pub chained : (draw : C → Option A) (past : A → C) → C → ℕ → List (Option A)
-  chained draw past c zero = []
-  chained draw past c (suc n) = draw c ∷ chained draw past (moved past c (draw c)) n
+-- the answers of n draws: the first from cursor c, each later one from the cursor to which the answer before leads
+abbrev pub chained : {A C : Type 0} (draw : C → A) (next : C → A → C) → C → ℕ → List A
+chained draw next c zero = []
+chained draw next c (suc n) = draw c ∷ chained draw next (next c (draw c)) n
 
 -- Cursors into an order: what comes after an element past the cursor is past it too, and past the cursor of an element is what comes
 -- after that element.

@@ -20,11 +20,6 @@ module _ {A : Type 0} where
   any t [] = false
   any t (x ∷ xs) = t x || any t xs
 
-  -- every element passes the test
-  abbrev pub all : (A → Bool) → List A → Bool
-  all t [] = true
-  all t (x ∷ xs) = t x && all t xs
-
   -- the elements that pass the test, in order
   abbrev pub keep : (A → Bool) → List A → List A
   keep t [] = []

@@ -7,6 +7,11 @@ pub data Result (A : Type 0) : Type 0 where
   ok : A → Result A
   refused : (number place : ℕ) → Result A
 
+-- the number of a refusal, and 0 for a value
+abbrev pub numberOf : {A : Type 0} → Result A → ℕ
+numberOf (ok a) = 0
+numberOf (refused number place) = number
+
 -- refused with this number where a place is found, else the rest
 abbrev pub unless : {A : Type 0} → Option ℕ → ℕ → Result A → Result A
 unless (some place) number r = refused number place

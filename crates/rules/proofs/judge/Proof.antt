@@ -1,5 +1,5 @@
 -- The verdict on what is accepted; a refusal is passed on.
-use mathlib.Core.Path.{_≡_, refl, sym, ap, _∙_}
+use mathlib.Core.Path.{_∙_}
 use Rattle.description.specs.Meaning.{describes}
 use Rattle.description.proofs.Outcomes.{passes-on, goes-on-with}
 use Rattle.rules.specs.Calls.{judgeCall}

@@ -1,8 +1,8 @@
 -- The counts of what is accepted; a refusal is passed on.
-use mathlib.Core.Path.{_≡_, refl, sym, ap, _∙_}
+use mathlib.Core.Path.{_∙_}
 use Rattle.description.specs.Meaning.{describes}
 use Rattle.description.proofs.Outcomes.{passes-on, goes-on-with}
-use Rattle.sequences.specs.Results.{Result, ok}
+use Rattle.sequences.specs.Results.{ok}
 use Rattle.rules.specs.Calls.{countsOf, readCall}
 use borrow.Author.Needs.{needs}
 use Rattle.rules.proofs.read.Statement.{statement}

@@ -1,12 +1,12 @@
 -- What is accepted goes on to the verdict; a refusal leaves the buffer.
-use mathlib.Core.Path.{_≡_, refl, sym, ap, _∙_}
-use lib.ListN.{length, drop, getD}
+use mathlib.Core.Path.{sym, ap, _∙_}
+use lib.ListN.{length}
 use mathlib.Core.List.{List}
 use Rattle.description.specs.Meaning.{describes, outcomeOf}
 use Rattle.description.specs.Format.{Description}
 use Rattle.rules.specs.Transfers.{Transfer, transfers}
 use Rattle.rules.specs.Calls.{fitted, bufferAfter, transfersCall}
-use Rattle.sequences.specs.Results.{Result, ok, refused, andThen}
+use Rattle.sequences.specs.Results.{ok, andThen}
 use Rattle.rules.specs.Placements.{judge}
 use borrow.Author.Needs.{needs}
 use Rattle.rules.proofs.transfers.Statement.{statement}

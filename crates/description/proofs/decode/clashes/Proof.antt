@@ -1,5 +1,5 @@
 -- Each return by the tests that led there.
-use mathlib.Core.Path.{_≡_, refl, sym, ap, _∙_}
+use mathlib.Core.Path.{sym, _∙_}
 use borrow.Author.Tests.{eq-eqb, ne-eqb}
 use Rattle.description.proofs.Steps.{clash-is}
 use borrow.Author.Needs.{needs}

@@ -1,12 +1,11 @@
 -- What all commands give, with a cloud and a block at least.
-use mathlib.Core.Path.{_≡_, refl, sym, ap, _∙_}
-use native.Mathlib.Omega.{arith}
-use lib.ListN.{length, drop, getD}
+use mathlib.Core.Path.{_≡_, sym, ap, _∙_}
+use lib.ListN.{length}
 use Rattle.description.proofs.Outcomes.{passes-on, goes-on-with}
 use Rattle.description.specs.Meaning.{describes, decodingOf, outcomeOf}
 use Rattle.description.specs.Format.{Description, inhabited, decode}
 use Rattle.sequences.specs.Results.{ok, refused}
-use borrow.Author.Tests.{eq-eqb, ne-eqb, lt-ltb, le-ltb, le-leb, lt-leb, not-true, not-false}
+use borrow.Author.Tests.{eq-eqb, ne-eqb}
 use borrow.Author.Needs.{needs}
 use Prim.Native.Nat.{ℕ}
 use mathlib.Core.Bool.{or-true}

@@ -1,16 +1,15 @@
-use mathlib.Core.Option.{none, some}
+use mathlib.Core.Option.{none}
 use Prim.Native.Nat.{_+_}
 use Rattle.description.specs.Meaning.{faultIn}
 use mathlib.Core.Path.{subst}
-use Prim.Native.Nat.{ℕ}
 use lib.ListN.{length-drop}
 use Rattle.description.proofs.Turns.{part-is}
 use Rattle.description.specs.Meaning.{Steps}
 -- What is read from here on is what is read from the start.
-use mathlib.Core.Path.{_≡_, refl, sym, ap, _∙_}
+use mathlib.Core.Path.{_≡_, sym, ap, _∙_}
 use native.Mathlib.Omega.{arith}
-use Prim.Native.Nat.{_≤_, _<_, _-_}
-use lib.ListN.{length, drop, getD}
+use Prim.Native.Nat.{_≤_, _-_}
+use lib.ListN.{length, drop}
 use borrow.Author.Needs.{needs}
 use Rattle.description.proofs.Turns.{ends-input, ends-early, stops-at, goes-on, nothing-left, whole, width-positive}
 use Rattle.description.specs.Meaning.{describes, decodingOf}

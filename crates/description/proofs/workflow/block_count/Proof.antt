@@ -1,7 +1,6 @@
 -- What counts is the lesser of the count and the array's length.
-use mathlib.Core.Path.{_≡_}
 use native.Mathlib.Omega.{arith}
-use lib.ListN.{length, length-map}
+use lib.ListN.{length-map}
 use Rattle.description.specs.Meaning.{describes}
 use Rattle.description.proofs.Arrays.{count-short, count-full}
 use Rattle.description.proofs.workflow.block_count.Statement.{statement}

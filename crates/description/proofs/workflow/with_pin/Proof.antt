@@ -2,7 +2,7 @@
 use borrow.Author.Needs.{needs}
 use Prim.Native.Nat.{_<_}
 use native.Mathlib.Omega.{arith}
-use lib.ListN.{length, take, length-map, length-take}
+use lib.ListN.{length-map, length-take}
 use Rattle.description.specs.Format.{block, pinned}
 use Rattle.description.specs.Meaning.{describes}
 use Rattle.description.proofs.Arrays.{another}

@@ -1,5 +1,5 @@
 -- What is decoded goes on to the rules; a refusal is passed on.
-use mathlib.Core.Path.{_≡_, refl, sym, ap, _∙_}
+use mathlib.Core.Path.{ap, _∙_}
 use Rattle.description.specs.Meaning.{describes, outcomeOf}
 use Rattle.description.proofs.Outcomes.{passes-on, goes-on-with}
 use Rattle.rules.specs.Soundness.{sound, read}

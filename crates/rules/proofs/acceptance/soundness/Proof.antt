@@ -1,8 +1,8 @@
 -- Each return by what the searches before it found.
-use mathlib.Core.Path.{_≡_, refl, sym, ap, _∙_}
+use mathlib.Core.Path.{sym, ap, _∙_}
 use native.Mathlib.Omega.{arith}
-use Prim.Native.Nat.{_≤_, _<_, _-_}
-use borrow.Author.Tests.{eq-eqb, ne-eqb, lt-ltb, le-ltb, le-leb, lt-leb, not-true, not-false}
+use Prim.Native.Nat.{_≤_, _<_}
+use borrow.Author.Tests.{lt-ltb, le-ltb}
 use Rattle.rules.specs.Answers.{foundIn}
 use Rattle.description.specs.Meaning.{describes, outcomeOf}
 use Rattle.rules.specs.Soundness.{sound, count}

@@ -1,4 +1,3 @@
-use mathlib.Core.Path.{_≡_, refl, sym, ap, _∙_}
 use borrow.Author.Needs.{needs}
 use Rattle.rules.proofs.cost.amount_of.Statement.{statement}
 use Rattle.rules.proofs.cost.amount_of.Tie as tie

@@ -1,8 +1,8 @@
 -- The sum so far and the sum from block b on make the whole.
-use mathlib.Core.Path.{_≡_, refl, sym, ap, _∙_}
+use mathlib.Core.Path.{_≡_, sym, ap, _∙_}
 use native.Mathlib.Omega.{arith}
 use Prim.Native.Nat.{_≤_, _<_, _-_}
-use lib.ListN.{length, drop, getD}
+use lib.ListN.{length, drop}
 use borrow.Author.Needs.{needs}
 use Rattle.description.specs.Meaning.{describes}
 use Prim.Native.Nat.{ℕ, _+_, _*_}
@@ -10,7 +10,6 @@ use native.Mathlib.Nat.{zero-add}
 use mathlib.Core.List.{map}
 use Rattle.rules.specs.Answers.{amountOf}
 use Rattle.rules.specs.Cost.{ofBlock, ofBlocks}
-use Rattle.description.specs.Format.{cloud, block}
 use Rattle.sequences.specs.Lists.{sum, below}
 use Rattle.sequences.proofs.Loops.{sum-next, sum-end}
 use Rattle.sequences.proofs.Counting.{length-below, getD-below}

@@ -1,5 +1,4 @@
 -- The three sums, each far from 2^53.
-use mathlib.Core.Path.{_≡_, refl, sym, ap, _∙_}
 use native.Mathlib.Omega.{arith}
 use Rattle.rules.specs.Cost.{cost}
 use borrow.Author.Needs.{needs}

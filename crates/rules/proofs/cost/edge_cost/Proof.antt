@@ -1,11 +1,12 @@
 -- Two rates below 2^16, and at most 6,554 gigabytes.
-use mathlib.Core.Path.{_≡_, refl, sym, ap, _∙_}
+use mathlib.Core.Path.{sym, _∙_}
 use native.Mathlib.Omega.{arith}
-use Prim.Native.Nat.{_≤_, _<_, _-_}
-use borrow.Author.Tests.{eq-eqb, ne-eqb, lt-ltb, le-ltb, le-leb, lt-leb, not-true, not-false}
+use Prim.Native.Nat.{_≤_}
+use borrow.Author.Tests.{not-true, not-false}
 use Prim.Native.Nat.{_+_, _*_}
 use native.Mathlib.Nat.{mul-le-mul}
 use borrow.Author.Needs.{needs}
+use Rattle.rules.specs.Cost.{edgeCost}
 use Rattle.rules.proofs.cost.edge_cost.Statement.{statement}
 use Rattle.rules.proofs.cost.edge_cost.Tie as tie
 
@@ -13,6 +14,7 @@ moves-requires : tie.Need-moves-requires
 moves-requires c κs = search needs
 
 returns : tie.Need-returns
+unfolding edgeCost
 returns c = (simp (sym (c .before .moves .ensures) ∙ not-true _ (c .if1 .taken)), omega arith)
 
 source-of-requires : tie.Need-source-of-requires
@@ -58,6 +60,7 @@ mul-result : tie.Need-mul-result
 mul-result c = let h = charged c in omega arith
 
 returns-2 : tie.Need-returns-2
+unfolding edgeCost
 returns-2 c = (simp ((sym (c .before .before .before .before .before .before .before .before .before .before .before .before .moves .ensures) ∙ not-false _ (c .before .before .before .before .before .before .before .before .before .before .before .if1 .left)), c .before .before .before .before .before .before .before .before .cloud-at .ensures, c .before .before .before .before .before .cloud-at2 .ensures, c .before .before .before .block-at .ensures, c .charged-of .ensures .0, c .before .before .before .before .before .before .before .before .before .wide .ensures, c .before .before .before .before .before .before .wide2 .ensures, c .before .before .before .before .wide3 .ensures, c .before .before .before .before .before .before .before .before .before .before .source-of .ensures, c .before .before .before .before .before .before .before .destination-of .ensures), charged c)
 
 pub edge-cost-spec : {M : Type 1} → statement M

@@ -1,16 +1,15 @@
 -- The sum so far and the sum from edge i on make the whole.
-use mathlib.Core.Path.{_≡_, refl, sym, ap, _∙_}
+use mathlib.Core.Path.{_≡_, sym, ap, _∙_}
 use native.Mathlib.Omega.{arith}
-use Prim.Native.Nat.{_≤_, _<_, _-_}
-use lib.ListN.{length, drop, getD}
+use Prim.Native.Nat.{_≤_, _-_}
+use lib.ListN.{length, drop}
 use borrow.Author.Needs.{needs}
 use Rattle.description.specs.Meaning.{describes}
 use Prim.Native.Nat.{_+_, _*_}
 use native.Mathlib.Nat.{zero-add}
 use mathlib.Core.List.{map}
 use lib.ListN.{drop-of-length-le}
-use Rattle.rules.specs.Answers.{edgeCost}
-use Rattle.rules.specs.Cost.{transferCost}
+use Rattle.rules.specs.Cost.{transferCost, edgeCost}
 use Rattle.rules.specs.Transfers.{transfers, transfersFrom}
 use Rattle.sequences.specs.Lists.{sum}
 use Rattle.rules.proofs.Transferring.{cost-next}

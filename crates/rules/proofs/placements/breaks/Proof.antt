@@ -1,4 +1,3 @@
-use mathlib.Core.Path.{_≡_, refl, sym, ap, _∙_}
 use borrow.Author.Needs.{needs}
 use Rattle.rules.proofs.placements.breaks.Statement.{statement}
 use Rattle.rules.proofs.placements.breaks.Tie as tie

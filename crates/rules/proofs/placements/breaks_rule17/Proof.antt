@@ -1,6 +1,6 @@
 -- Each return by the tests that led there.
-use mathlib.Core.Path.{_≡_, refl, sym, ap, _∙_}
-use borrow.Author.Tests.{eq-eqb, ne-eqb, lt-ltb, le-ltb, le-leb, lt-leb, not-true, not-false}
+use mathlib.Core.Path.{sym, _∙_}
+use borrow.Author.Tests.{not-true, not-false}
 use Rattle.rules.specs.Placements.{breaks17}
 use borrow.Author.Needs.{needs}
 use Rattle.rules.proofs.placements.breaks_rule17.Statement.{statement}

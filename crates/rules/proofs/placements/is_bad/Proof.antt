@@ -1,4 +1,3 @@
-use mathlib.Core.Path.{_≡_, refl, sym, ap, _∙_}
 use Rattle.rules.specs.Placements.{badPosition}
 use borrow.Author.Needs.{needs}
 use Rattle.rules.proofs.placements.is_bad.Statement.{statement}

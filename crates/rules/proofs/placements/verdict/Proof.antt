@@ -1,5 +1,5 @@
 -- Each return by what the searches before it found.
-use mathlib.Core.Path.{_≡_, refl, sym, ap, _∙_}
+use mathlib.Core.Path.{sym, ap, _∙_}
 use Rattle.rules.specs.Answers.{judgeAnswer, foundIn}
 use Rattle.rules.specs.Placements.{judge}
 use borrow.Author.Needs.{needs}

@@ -1,6 +1,4 @@
 -- Each return by the tests that led there.
-use mathlib.Core.Path.{_≡_, refl, sym, ap, _∙_}
-use borrow.Author.Tests.{eq-eqb, ne-eqb, lt-ltb, le-ltb, le-leb, lt-leb, not-true, not-false}
 use Rattle.rules.specs.Soundness.{breaks2}
 use borrow.Author.Needs.{needs}
 use Rattle.rules.proofs.soundness.breaks_rule2.Statement.{statement}

@@ -1,9 +1,9 @@
 use native.Mathlib.Nat.{zero-add}
 -- The count so far and the count from k on make the whole.
-use mathlib.Core.Path.{_≡_, refl, sym, ap, _∙_}
+use mathlib.Core.Path.{_≡_, sym}
 use native.Mathlib.Omega.{arith}
-use Prim.Native.Nat.{_≤_, _<_, _-_}
-use lib.ListN.{length, drop, getD}
+use Prim.Native.Nat.{_≤_, _-_}
+use lib.ListN.{length, drop}
 use borrow.Author.Needs.{needs}
 use Rattle.sequences.proofs.Loops.{keep-hit, keep-miss, keep-end, told}
 use Rattle.description.specs.Meaning.{describes}

@@ -1,4 +1,4 @@
-use mathlib.Core.Path.{_≡_, refl, sym, ap, _∙_}
+use mathlib.Core.Path.{refl}
 use Rattle.rules.specs.Soundness.{covers}
 use Rattle.rules.proofs.soundness.covers.Statement.{statement}
 use Rattle.rules.proofs.soundness.covers.Tie as tie

@@ -3,10 +3,10 @@ use mathlib.Core.List.{[], _∷_}
 use Rattle.description.specs.Format.{edge}
 use lib.Seq.{sets}
 -- Edge by edge, by the steps of `Transferring`.
-use mathlib.Core.Path.{_≡_, refl, sym, ap, _∙_}
+use mathlib.Core.Path.{_≡_, sym, ap, _∙_}
 use native.Mathlib.Omega.{arith}
 use Prim.Native.Nat.{_≤_, _<_, _-_}
-use lib.ListN.{length, drop, getD}
+use lib.ListN.{length, getD}
 use borrow.Author.Needs.{needs}
 use Rattle.description.specs.Meaning.{describes}
 use Prim.Native.Nat.{_+_}

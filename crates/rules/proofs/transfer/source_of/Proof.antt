@@ -1,5 +1,5 @@
 -- Each return by the way of the edge.
-use mathlib.Core.Path.{_≡_, refl, sym, ap, _∙_}
+use mathlib.Core.Path.{sym, _∙_}
 use borrow.Author.Needs.{needs}
 use Rattle.rules.proofs.transfer.source_of.Statement.{statement}
 use Rattle.rules.proofs.transfer.source_of.Tie as tie

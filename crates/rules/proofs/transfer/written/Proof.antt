@@ -1,9 +1,7 @@
 -- Four bytes for each transfer are needed; with room for them all are written.
-use mathlib.Core.Path.{_≡_, refl, sym, ap, _∙_}
+use mathlib.Core.Path.{_≡_, sym, ap, _∙_}
 use native.Mathlib.Omega.{arith}
-use Prim.Native.Nat.{_≤_, _<_, _-_}
-use lib.ListN.{length, drop, getD}
-use borrow.Author.Tests.{eq-eqb, ne-eqb, lt-ltb, le-ltb, le-leb, lt-leb, not-true, not-false}
+use lib.ListN.{length}
 use Rattle.description.specs.Meaning.{describes}
 use Prim.Native.Nat.{ℕ, _*_}
 use mathlib.Core.List.{List}

@@ -1,11 +1,11 @@
 -- A secure placement goes on to the buffer; a refusal leaves it.
-use mathlib.Core.Path.{_≡_, refl, sym, ap, _∙_}
-use lib.ListN.{length, drop, getD}
+use mathlib.Core.Path.{sym, ap, _∙_}
+use lib.ListN.{length}
 use Rattle.description.specs.Meaning.{describes}
 use mathlib.Core.List.{List}
 use Rattle.rules.specs.Transfers.{Transfer, transfers}
 use Rattle.rules.specs.Calls.{fitted, bufferAfter}
-use Rattle.sequences.specs.Results.{Result, ok, refused, andThen}
+use Rattle.sequences.specs.Results.{ok, andThen}
 use Rattle.rules.specs.Answers.{judgeAnswer}
 use borrow.Author.Needs.{needs}
 use Rattle.rules.proofs.transfer.written_if_secure.Statement.{statement}

@@ -1,0 +1,20 @@
+-- The worked examples, by computation.
+use mathlib.Core.Path.{refl}
+use native.Mathlib.Omega.{arith}
+use Rattle.listing.specs.Lines.{digits, decimal}
+use Rattle.listing.specs.Statements.{Examples}
+
+pub examples : Examples
+unfolding digits decimal
+examples = record {
+  zero = refl;
+  nine = refl;
+  ten = refl;
+  largest = refl;
+  row = refl;
+  nextRow = refl;
+  options = refl;
+  refusal = refl;
+  bytes = (refl, refl);
+  clouds = λ k h. omega arith;
+}

@@ -1,0 +1,5 @@
+pub mod Decimals
+pub mod Examples
+pub mod Making
+pub mod Placing
+pub mod Sizes

@@ -1,0 +1,114 @@
+-- Security goes edge by edge, and candidates go position by position. So a block-by-block mix of two secure candidates of one option is
+-- a third; and a datum that alone moves to a cloud where it may stand leaves a secure candidate secure.
+use Prim.Native.Nat.{ℕ, _<_}
+use native.Mathlib.Omega.{arith}
+use mathlib.Core.Path.{_≡_, sym, ap, _∙_}
+use mathlib.Core.Logic.{_↔_, Iff·trans, inl, inr}
+use mathlib.Core.Bool.{Bool, true, false, not, _&&_}
+use mathlib.Core.List.{List, List·Memᴰ}
+use lib.ListN.{length, getD}
+use borrow.Author.Tests.{ltb-true, lt-ltb, not-true}
+use Rattle.description.specs.declared.workflow.Edge.{Edge}
+use Rattle.description.specs.Format.{Description, block, isWrite}
+use Rattle.description.specs.Invariants.{WellFormed}
+use Rattle.rules.specs.Soundness.{mayStand, candidates}
+use Rattle.rules.specs.Placements.{exposes, breaks16, breaks17, secure}
+use Rattle.rules.specs.Options.{sameOption}
+use Rattle.rules.specs.Representatives.{SameServices, Mix, SecureCandidate}
+use Rattle.rules.proofs.Deciding.{may-stand}
+use Rattle.rules.proofs.Candidates.{candidates-placed}
+use Rattle.rules.proofs.Options.{service-named, same-parts, same-services}
+use Rattle.rules.proofs.Locality.{data-are, edge-service, edge-datum, exposes-alike, part-local}
+use Rattle.sequences.proofs.Members.{none-members}
+use Rattle.sequences.proofs.Tests.{both-pass, and-fails}
+
+-- ---- security, edge by edge
+
+-- a test that fails for reads and for writes
+either-way : (w x : Bool) → (not w && x ≡ false) → (w && x ≡ false) → x ≡ false
+either-way true x f g = g
+either-way false x f g = f
+
+module _ (d : Description) where
+  -- secure: no edge, read or written, exposes a copy
+  pub secure-edges : (p : List ℕ) → (secure d p ≡ true) ↔ ((e : Edge) → List·Memᴰ e (d .edges) → exposes d p e ≡ false)
+  unfolding breaks16 breaks17
+  secure-edges p = (
+    λ t e m.
+        let (reads, writes) = both-pass _ _ .0 t in
+        either-way (isWrite (e .way)) (exposes d p e)
+        (none-members (breaks16 d p) (d .edges) .0 (not-true _ reads) e m)
+        (none-members (breaks17 d p) (d .edges) .0 (not-true _ writes) e m),
+    λ h. both-pass _ _ .1 (
+      ap not (none-members (breaks16 d p) (d .edges) .1 (λ e m. and-fails (not (isWrite (e .way))) (exposes d p e) (h e m))),
+      ap not (none-members (breaks17 d p) (d .edges) .1 (λ e m. and-fails (isWrite (e .way)) (exposes d p e) (h e m))),
+    ),
+  )
+
+-- ---- candidates, position by position
+
+module _ (d : Description) (w : WellFormed d) where
+  -- sixteen clouds, each of which its position may have
+  pub candidates-stand : (p : List ℕ) → List·Memᴰ p (candidates d) ↔ ((length p ≡ 16) × ((n : ℕ) → n < 16 → mayStand d n (getD p n 0) ≡ true))
+  candidates-stand p = Iff·trans (candidates-placed d (w .limits .clouds) p) (
+    λ (size, placed). (size, λ n h. may-stand d p n .1 (placed n h)),
+    λ (size, stand). (size, λ n h. may-stand d p n .0 (stand n h)),
+  )
+
+  -- a declared block is one of the sixteen
+  pub block-low : (n : ℕ) → n < length (d .blocks) → n < 16
+  block-low n h = omega (arith, w .limits .blocks)
+
+  -- and a cloud on which a declared block may stand is one of the eight
+  pub cloud-low : (n k : ℕ) → n < length (d .blocks) → mayStand d n k ≡ true → k < 8
+  unfolding mayStand
+  cloud-low n k h may =
+      let declared = ltb-true k (length (d .clouds)) (both-pass _ _ .0 (both-pass _ _ .0 (rw (lt-ltb n (length (d .blocks)) h) at may) .0) .0) in
+      omega (arith, w .limits .clouds)
+
+  -- ---- mixes
+
+  module _ (p q r : List ℕ) (mix : Mix p q r) where
+    mix-services : SameServices d p q → SameServices d p r
+    mix-services same n s = elim (mix .either n (block-low n (service-named d n s .0))) [
+      | inl e ↦ sym e
+      | inr e ↦ same n s ∙ sym e
+    ]
+
+    mix-stands : (n : ℕ) → n < 16 → mayStand d n (getD p n 0) ≡ true → mayStand d n (getD q n 0) ≡ true → mayStand d n (getD r n 0) ≡ true
+    mix-stands n h s t = elim (mix .either n h) [ inl e ↦ rw e s | inr e ↦ rw e t ]
+
+    -- a mix of candidates is one
+    pub mix-candidate : List·Memᴰ p (candidates d) → List·Memᴰ q (candidates d) → List·Memᴰ r (candidates d)
+    mix-candidate mp mq = candidates-stand r .1
+        (mix .size, λ n h. mix-stands n h (candidates-stand p .0 mp .1 n h) (candidates-stand q .0 mq .1 n h))
+
+    -- where the services stand on the same clouds, a mix of secure placements is secure
+    pub mix-secure : SameServices d p q → secure d p ≡ true → secure d q ≡ true → secure d r ≡ true
+    mix-secure same sp sq = secure-edges d r .1 (λ e m.
+        let sr = mix-services same in
+        let here = sr (e .service) (edge-service d w e m) in
+        elim (mix .either (e .datum) (block-low (e .datum) (data-are d (e .datum) .0 (edge-datum d w e m) .0))) [
+          | inl at ↦ exposes-alike d r p e (sym here) at ∙ secure-edges d p .0 sp e m
+          | inr at ↦ exposes-alike d r q e (sym here ∙ same (e .service) (edge-service d w e m)) at ∙ secure-edges d q .0 sq e m
+        ])
+
+    -- a mix of placements of one option is of that option
+    pub mix-same : sameOption d p q ≡ true → sameOption d r p ≡ true
+    mix-same t = same-parts d r p .1 (λ n h.
+        let sp = same-services d p q t in
+        let sr = mix-services sp in
+        elim (mix .either n (block-low n h)) [
+          | inl at ↦ part-local d w r p (λ m s. sym (sr m s)) n at (block d n .kind)
+          | inr at ↦ part-local d w r q (λ m s. sym (sr m s) ∙ sp m s) n at (block d n .kind) ∙ sym (same-parts d p q .0 t n h)
+        ])
+
+    -- Two secure candidates of one option, mixed block by block: a secure candidate of that option.
+    pub mixed : SecureCandidate d p → SecureCandidate d q → sameOption d p q ≡ true → SecureCandidate d r × (sameOption d r p ≡ true)
+    mixed cp cq t = (
+      record {
+        candidate = mix-candidate (cp .candidate) (cq .candidate);
+        safe = mix-secure (same-services d p q t) (cp .safe) (cq .safe);
+      },
+      mix-same t,
+    )

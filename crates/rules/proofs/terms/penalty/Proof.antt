@@ -1,0 +1,25 @@
+-- Each return by the tests that led there.
+use mathlib.Core.Path.{sym, _∙_}
+use native.Mathlib.Omega.{arith}
+use borrow.Author.Tests.{not-true, not-false}
+use borrow.Author.Needs.{needs}
+use Rattle.rules.proofs.terms.penalty.Statement.{statement}
+use Rattle.rules.proofs.terms.penalty.Tie as tie
+
+exposes-requires : tie.Need-exposes-requires
+exposes-requires c κs = search needs
+
+returns : tie.Need-returns
+returns c = (simp (sym (c .before .exposes .ensures) ∙ not-true _ (c .if1 .taken)), omega arith)
+
+is-write-requires : tie.Need-is-write-requires
+is-write-requires c κs = search needs
+
+returns-2 : tie.Need-returns-2
+returns-2 c = (simp (sym (c .before .before .before .exposes .ensures) ∙ not-false _ (c .before .before .if1 .left), sym (c .before .is-write .ensures) ∙ c .if2 .taken), omega arith)
+
+returns-3 : tie.Need-returns-3
+returns-3 c = (simp (sym (c .before .before .before .exposes .ensures) ∙ not-false _ (c .before .before .if1 .left), sym (c .before .is-write .ensures) ∙ c .if2 .left), omega arith)
+
+pub penalty-spec : {M : Type 1} → statement M
+penalty-spec = tie.close (tie.spec exposes-requires returns is-write-requires returns-2 returns-3)

@@ -1,0 +1,68 @@
+-- The walk below a prefix: the placements that begin with it, what is known as the walk comes there, and what it has done as it leaves.
+use Prim.Native.Nat.{ℕ, suc, _+_, _*_, _^_, _≤_, _<_}
+use mathlib.Core.Path.{_≡_}
+use mathlib.Core.List.{List, [], _∷_, _++_, map, foldl}
+use lib.ListN.{length}
+use Rattle.sequences.specs.Lists.{keep, from, below, prefixed, sequences}
+use Rattle.walk.specs.declared.visit.Seen.{Seen}
+use Rattle.walk.specs.declared.visit.Task.{Task}
+use Rattle.walk.specs.Packing.{digits}
+use Rattle.walk.specs.Tables.{Tables, tables, allowed, weight, Ready}
+use Rattle.walk.specs.Walking.{seeAt}
+
+-- what stays the same all the way down
+pub record Setting : Type 0 where
+  pub table : Tables
+  pub clouds : ℕ
+  pub blocks : ℕ
+  pub task : Task
+
+abbrev pub setting : (own terms ends starts masks pairs : List ℕ) (clouds blocks : ℕ) → Task → Setting
+setting own terms ends starts masks pairs clouds blocks task =
+    record { table = tables own terms ends starts masks pairs; clouds = clouds; blocks = blocks; task = task }
+
+-- w is the weight of the first k blocks, whose clouds are the digits of place
+abbrev pub Carried : Tables → (k place w : ℕ) → Type 0
+Carried t k place w = w ≡ weight t k (digits k place)
+
+-- all that was counted
+abbrev pub tally : Seen → ℕ
+tally s = s .breaking16 + s .breaking17only + s .secure + s .rows
+
+module _ (S : Setting) where
+  -- the clouds that each of n blocks from k on may stand on
+  abbrev pub choices : (k n : ℕ) → List (List ℕ)
+  choices k n = map (λ b. keep (allowed (S .table) b) (below (S .clouds))) (from k n)
+
+  -- the placements that begin with q, in which n blocks follow
+  unfoldable pub completions : ℕ → List ℕ → List (List ℕ)
+  completions n q = map (λ p. q ++ p) (sequences (choices (length q) n))
+
+  -- the placements that begin with q, whose next block is on one of the clouds ks, where it may stand, and n blocks follow
+  unfoldable pub branches : ℕ → List ℕ → List ℕ → List (List ℕ)
+  branches n q ks = map (λ p. q ++ p) (prefixed (sequences (choices (suc (length q)) n)) (keep (allowed (S .table) (length q)) ks))
+
+  -- placements are seen, one after the other
+  unfoldable pub seeThese : Seen → List (List ℕ) → Seen
+  seeThese s qs = foldl (seeAt (S .table) (S .blocks) (S .task)) s qs
+
+  -- k blocks have their clouds, the digits of place, and n have none yet; w is the weight of those k
+  pub record Under (k n w place : ℕ) : Type 0 where
+    pub ready : Ready (S .table) (S .blocks)
+    pub numbers : S .clouds ≤ 8
+    pub sized : k + n ≡ S .blocks
+    pub low : place < 8 ^ k
+    pub carried : Carried (S .table) k place w
+
+  -- from s, all of qs were seen, and no more was counted than for 8 ^ n placements
+  pub record Walked (s : Seen) (n : ℕ) (qs : List (List ℕ)) (r : Seen) : Type 0 where
+    pub same : r ≡ seeThese s qs
+    pub counted : tally r ≤ tally s + 2 * 8 ^ n
+
+  -- the walk below the first k digits of place, with n blocks to follow
+  abbrev pub WalkedBelow : (s : Seen) (k n place : ℕ) (r : Seen) → Type 0
+  WalkedBelow s k n place r = Walked s n (completions n (digits k place)) r
+
+  -- the turn of cloud c there, with n blocks to follow
+  abbrev pub Turned : (s : Seen) (k n place c : ℕ) (r : Seen) → Type 0
+  Turned s k n place c r = Walked s n (branches n (digits k place) (c ∷ [])) r
