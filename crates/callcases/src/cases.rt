@@ -5,12 +5,16 @@ ghost use lib.ListN.{length};
 ghost use Rattle.callcases.specs.Room.{size, line, Within};
 use crate::buffer::Buffer;
 use crate::input::be16;
+use crate::input::be64;
 use crate::input::read_all;
 use crate::lines::put_acceptance;
+use crate::lines::put_counted;
+use crate::lines::put_drawn;
 use crate::lines::put_transferred;
 use crate::lines::put_verdict;
 use crate::output::put;
 use crate::output::put_hex;
+use lister::Cursor;
 
 // The offset behind a case's line in the output, or that it is no case.
 pub enum Reply {
@@ -26,6 +30,8 @@ pub fn answer(letter: u8, description: &[u8], out: &mut Buffer, at: usize) -> Re
     match letter {
         b'R' => answer_read(description, out, at),
         b'J' => answer_judge(description, out, at),
+        b'C' => answer_census(description, out, at),
+        b'D' => answer_draw(description, out, at),
         b'T' => answer_transfers(description, out, at),
         _ => Reply::Bad,
     }
@@ -49,6 +55,51 @@ fn answer_judge(description: &[u8], out: &mut Buffer, at: usize) -> Reply
     }
     let at = put_verdict(out, at, rules::judge(description, placement));
     Reply::Line(put(out, at, b"\n"))
+}
+
+fn answer_census(description: &[u8], out: &mut Buffer, at: usize) -> Reply
+    requires { ⌜ at + line ≤ size ⌝ }
+    ensures { λ r. ⌜ Within r ⌝ }
+{
+    let at = put_counted(out, at, lister::census(description));
+    Reply::Line(put(out, at, b"\n"))
+}
+
+fn answer_draw(description: &[u8], out: &mut Buffer, at: usize) -> Reply
+    requires { ⌜ at + line ≤ size ⌝ }
+    ensures { λ r. ⌜ Within r ⌝ }
+{
+    let mut kind = [0u8; 1];
+    if !read_all(&mut kind) {
+        return Reply::Bad;
+    }
+    let mut cost = [0u8; 8];
+    if !read_all(&mut cost) {
+        return Reply::Bad;
+    }
+    let mut placement = [0u8; 16];
+    if !read_all(&mut placement) {
+        return Reply::Bad;
+    }
+    if kind[0] > 1 {
+        return Reply::Bad;
+    }
+    let cursor = Cursor {
+        start: kind[0] == 0,
+        cost: number_of(cost),
+        placement,
+    };
+    let at = put_drawn(out, at, lister::draw(description, cursor));
+    Reply::Line(put(out, at, b"\n"))
+}
+
+fn number_of(b: [u8; 8]) -> u64 {
+    be64(
+        be16(b[0], b[1]),
+        be16(b[2], b[3]),
+        be16(b[4], b[5]),
+        be16(b[6], b[7]),
+    )
 }
 
 fn answer_transfers(description: &[u8], out: &mut Buffer, at: usize) -> Reply

@@ -12,6 +12,17 @@ pub fn be16(high: u8, low: u8) -> usize
     high as usize * 256 + low as usize
 }
 
+// A number in eight bytes, most significant first, of which each pair is read already.
+pub fn be64(first: usize, second: usize, third: usize, fourth: usize) -> u64
+    requires { ⌜ first ≤ 65535 ⌝ }
+    requires { ⌜ second ≤ 65535 ⌝ }
+    requires { ⌜ third ≤ 65535 ⌝ }
+    requires { ⌜ fourth ≤ 65535 ⌝ }
+    ensures { λ r. ⌜ r ≡ ((first * 65536 + second) * 65536 + third) * 65536 + fourth ⌝ }
+{
+    ((first as u64 * 65536 + second as u64) * 65536 + third as u64) * 65536 + fourth as u64
+}
+
 // Fills the bytes, and answers whether the input had as many.
 pub fn read_all(bytes: &mut [u8]) -> bool {
     let wanted = bytes.len();

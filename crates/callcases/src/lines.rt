@@ -3,8 +3,14 @@ ghost use Prim.Native.Nat.{_+_, _≤_};
 ghost use Rattle.callcases.specs.Room.{size, words};
 use crate::buffer::Buffer;
 use crate::output::put;
+use crate::output::put_clouds;
 use crate::output::put_number;
 use description::workflow::Refusal;
+use lister::Answer;
+use lister::Counted;
+use lister::Drawn;
+use lister::Figures;
+use lister::Row;
 use rules::answers::Acceptance;
 use rules::answers::Transferred;
 use rules::answers::Verdict;
@@ -33,6 +39,29 @@ pub fn put_verdict(out: &mut Buffer, at: usize, v: Verdict) -> usize
     }
 }
 
+pub fn put_counted(out: &mut Buffer, at: usize, c: Counted) -> usize
+    requires { ⌜ at + words ≤ size ⌝ }
+    ensures { λ r. ⌜ r ≤ at + words ⌝ }
+{
+    match c {
+        Counted::Counts(f) => put_figures(out, at, f),
+        Counted::Refused(r) => put_refusal(out, at, r),
+    }
+}
+
+pub fn put_drawn(out: &mut Buffer, at: usize, d: Drawn) -> usize
+    requires { ⌜ at + words ≤ size ⌝ }
+    ensures { λ r. ⌜ r ≤ at + words ⌝ }
+{
+    let answer = d.answer;
+    let row = d.row;
+    match answer {
+        Answer::Found => put_row(out, at, row),
+        Answer::Finished => put(out, at, b"finished"),
+        Answer::Refused(r) => put_refusal(out, at, r),
+    }
+}
+
 pub fn put_transferred(out: &mut Buffer, at: usize, t: Transferred) -> usize
     requires { ⌜ at + words ≤ size ⌝ }
     ensures { λ r. ⌜ r ≤ at + words ⌝ }
@@ -54,6 +83,30 @@ fn put_counts(out: &mut Buffer, at: usize, clouds: usize, blocks: usize, edges: 
     let at = put_number(out, at, clouds as u64);
     let at = put_number(out, at, blocks as u64);
     put_number(out, at, edges as u64)
+}
+
+fn put_figures(out: &mut Buffer, at: usize, f: Figures) -> usize
+    requires { ⌜ at + words ≤ size ⌝ }
+    ensures { λ r. ⌜ r ≤ at + words ⌝ }
+{
+    let at = put(out, at, b"census");
+    let at = put_number(out, at, f.candidates);
+    let at = put_number(out, at, f.breaking16);
+    let at = put_number(out, at, f.breaking17only);
+    let at = put_number(out, at, f.secure);
+    put_number(out, at, f.options)
+}
+
+fn put_row(out: &mut Buffer, at: usize, row: Row) -> usize
+    requires { ⌜ at + words ≤ size ⌝ }
+    ensures { λ r. ⌜ r ≤ at + words ⌝ }
+{
+    let cost = row.cost;
+    let placement = row.placement;
+    let at = put(out, at, b"row");
+    let at = put_number(out, at, cost);
+    let at = put(out, at, b" ");
+    put_clouds(out, at, placement)
 }
 
 fn put_refusal(out: &mut Buffer, at: usize, r: Refusal) -> usize

@@ -39,6 +39,24 @@ pub fn put_number(out: &mut Buffer, at: usize, n: u64) -> usize
     put(out, at, &digits[..count])
 }
 
+// Puts a digit for each block's cloud.
+pub fn put_clouds(out: &mut Buffer, at: usize, clouds: [u8; 16]) -> usize
+    requires { ⌜ at + 16 ≤ size ⌝ }
+    ensures { λ r. ⌜ r ≡ at + 16 ⌝ }
+{
+    let mut i = 0;
+    while i < 16 {
+        out[at + i] = cloud_digit(clouds[i]);
+        i += 1;
+    }
+    at + i
+}
+
+// No description has as many as ten clouds: a number that is none of a cloud's would show as a question mark.
+fn cloud_digit(cloud: u8) -> u8 {
+    if cloud < 10 { b'0' + cloud } else { b'?' }
+}
+
 // Puts a space and the bytes in hexadecimal, and nothing where there are none.
 pub fn put_hex(out: &mut Buffer, at: usize, bytes: &[u8]) -> usize
     requires { ⌜ at + 1 + 2 * length (now bytes) ≤ size ⌝ }
