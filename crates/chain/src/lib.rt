@@ -4,7 +4,6 @@ ghost use Rattle.lister.specs.Answers.{drawAnswer, rowBeside};
 ghost use Rattle.lister.specs.Calls.{drawCall};
 ghost use Rattle.lister.specs.ItemThree.{atStart, past, movedBy};
 ghost use Rattle.chain.specs.Chain.{InChain};
-
 use lister::Answer;
 use lister::Cursor;
 use lister::Drawn;
