@@ -77,7 +77,7 @@ fn answer(description: &[u8]) {
     }
 }
 
-// A description has at most 346 bytes, and of a longer input the first 347 decide: the rest need not be read.
+// Of input longer than 346 bytes the first 346 decide (docs/DECISIONS.md): what does not fit into the buffer need not be read.
 fn main() {
     let mut space = io::buffer();
     let count = io::read_full(STDIN_FILENO, &mut space);
