@@ -20,7 +20,7 @@ counted : (r : Result Description) → candidatesOf r ≡ andThen r (λ d. ok (c
 counted (ok d) = ap {B = Result ℕ} ok (count-is-length d)
 counted (refused number place) = refl
 
--- document 01's table: every case holds
+-- the interview table: every case holds
 pub interview : Interview
 unfolding
     decode

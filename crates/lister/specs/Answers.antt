@@ -1,4 +1,4 @@
--- The answers of Census and Draw: for every case document 01's number and values.
+-- The answers of Census and Draw: for every case the scope's number and values.
 use Prim.Native.Nat.{ℕ}
 use mathlib.Core.List.{List}
 use mathlib.Core.Option.{Option, none, some}

@@ -1,4 +1,4 @@
--- The lines that `listoptions` prints, as bytes (document 01, "The interview file"), and what putting one into a buffer does.
+-- The lines that `listoptions` prints, as bytes, and what putting one into a buffer does.
 use Prim.Native.Nat.{ℕ, zero, suc, _+_, _/_, _%_}
 use Prim.Native.Char.{code}
 use Prim.Native.String as Strings

@@ -1,4 +1,4 @@
--- Judging a placement gives exactly what document 01's rules say: secure, or 13, 14 or 15 at its first place.
+-- Judging a placement gives exactly what the scope's rules say: secure, or 13, 14 or 15 at its first place.
 use Prim.Native.Nat.{ℕ, _<_}
 use native.Mathlib.Omega.{arith}
 use mathlib.Core.Path.{_≡_, refl}

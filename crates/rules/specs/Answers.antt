@@ -1,4 +1,4 @@
--- The answers of the calls, each an enum: for every case document 01's number and values.
+-- The answers of the calls, each an enum: for every case the scope's number and values.
 use Prim.Native.Nat.{ℕ}
 use mathlib.Core.Bool.{Bool}
 use mathlib.Core.List.{List}

@@ -1,4 +1,4 @@
--- Each of document 01's numbers is given for some input: a table of examples with their places, one for each cause that the
+-- Each of the scope's numbers is given for some input: a table of examples with their places, one for each cause that the
 -- document names of a number.
 use Prim.Native.Nat.{ℕ}
 use mathlib.Core.Path.{_≡_}

@@ -1,4 +1,4 @@
--- What a placement must be, from document 01's rules themselves: plain orders and equations, and no test that the definitions use.
+-- What a placement must be, from the scope's rules themselves: plain orders and equations, and no test that the definitions use.
 use Prim.Native.Nat.{ℕ, _≤_, _<_}
 use mathlib.Core.Path.{_≡_}
 use mathlib.Core.List.{List}
