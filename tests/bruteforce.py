@@ -1166,19 +1166,10 @@ def read_random(dice):
 
 
 def read_cases(dice):
-    yield from read_cut_short()
-    yield from read_cut_short_and_at_fault()
-    yield from read_unknown()
-    yield from read_past_the_end()
-    yield from read_limits()
-    yield from read_heights()
-    yield from read_names()
-    yield from read_repeats()
-    yield from read_nothing_there()
-    yield from read_rules()
-    yield from read_candidate_counts()
-    yield from read_first_fault_decides()
-    yield from read_shapes()
+    for part in (read_cut_short, read_cut_short_and_at_fault, read_unknown, read_past_the_end, read_limits,
+                 read_heights, read_names, read_repeats, read_nothing_there, read_rules, read_candidate_counts,
+                 read_first_fault_decides, read_shapes):
+        yield from part()
     yield from read_random(dice)
 
 

@@ -1,6 +1,7 @@
 // The two large buffers: for the description that is read, and for the output that waits to be written.
 ghost use Prim.Native.Nat.{_≤_};
-ghost use lib.ListN.{length};
+ghost use mathlib.Core.Path.{_≡_};
+ghost use lib.ListN.{length, take};
 
 // More bytes than the longest description has.
 pub const SIZE: usize = 65536;
@@ -12,6 +13,7 @@ pub type Buffer = [u8; SIZE];
 
 pub fn front(space: &[u8], count: usize) -> &[u8]
     requires { ⌜ count ≤ length (now space) ⌝ }
+    ensures { λ r. ⌜ now r ≡ take count (now (space .entry)) ⌝ }
 {
     &space[..count]
 }

@@ -1,13 +1,15 @@
 // Lists the options of the description on standard input: a line for each row, cheapest first, and last their number. Each line is
 // written as soon as its row is drawn; a write that fails is the end, so that no count follows half a list.
 ghost use Prim.Native.Nat.{_≤_};
+ghost use mathlib.Core.Path.{_≡_};
 ghost use lib.ListN.{length};
-use chain::Link;
-use description::workflow::Refusal;
+ghost use Rattle.lister.specs.Answers.{drawAnswer};
+ghost use Rattle.listing.specs.Lines.{placed, placedEnd};
+ghost use Rattle.listoptions.specs.Printed.{answerLine, isRow};
 use libc::STDIN_FILENO;
 use libc::STDOUT_FILENO;
 use lister::Answer;
-use lister::Row;
+use lister::Drawn;
 use rules::answers::Acceptance;
 
 fn write_front(line: &[u8], end: usize) -> bool
@@ -16,41 +18,36 @@ fn write_front(line: &[u8], end: usize) -> bool
     io::write_all(STDOUT_FILENO, &line[..end])
 }
 
-fn write_row(row: Row, blocks: usize) -> bool {
-    let placement = row.placement;
-    let mut line = [0u8; 64];
-    let end = listing::put_row(row.cost, placement, blocks, &mut line, 0);
-    write_front(&line, end)
-}
-
-fn write_options(count: u64) -> bool {
-    let mut line = [0u8; 64];
-    let end = listing::put_options(count, &mut line, 0);
-    write_front(&line, end)
-}
-
-fn write_refusal(r: Refusal) -> bool {
-    let mut line = [0u8; 64];
-    let end = listing::put_refusal(r.number, r.place as u64, &mut line, 0);
-    write_front(&line, end)
-}
-
-// Writes a draw's answer, when `count` rows were written before it. Says whether another draw is due: not after the last line, nor
-// after a write that failed.
-fn goes_on(link: Link, blocks: usize, count: u64) -> bool {
-    let drawn = link.drawn;
+// The line of a draw's answer, when `count` rows came before it.
+fn put_answer(drawn: Drawn, blocks: usize, count: u64, line: &mut [u8]) -> usize
+    ensures { λ r. ⌜ r ≡ placedEnd (answerLine (drawAnswer drawn) blocks count) (now (line .entry)) 0 ⌝ }
+    ensures { λ r. ⌜ now (line .exit) ≡ placed (answerLine (drawAnswer drawn) blocks count) (now (line .entry)) 0 ⌝ }
+{
     let answer = drawn.answer;
     let row = drawn.row;
+    let placement = row.placement;
     match answer {
-        Answer::Found => write_row(row, blocks),
-        Answer::Finished => {
-            write_options(count);
-            false
-        }
-        Answer::Refused(r) => {
-            write_refusal(r);
-            false
-        }
+        Answer::Found => listing::put_row(row.cost, placement, blocks, line, 0),
+        Answer::Finished => listing::put_options(count, line, 0),
+        Answer::Refused(r) => listing::put_refusal(r.number, r.place as u64, line, 0),
+    }
+}
+
+fn write_answer(drawn: Drawn, blocks: usize, count: u64) -> bool {
+    let mut line = [0u8; 64];
+    let end = put_answer(drawn, blocks, count, &mut line);
+    write_front(&line, end)
+}
+
+// A line follows that of a row only.
+fn is_row(drawn: Drawn) -> bool
+    ensures { λ r. ⌜ r ≡ isRow (drawAnswer drawn) ⌝ }
+{
+    let answer = drawn.answer;
+    match answer {
+        Answer::Found => true,
+        Answer::Finished => false,
+        Answer::Refused(_) => false,
     }
 }
 
@@ -60,7 +57,10 @@ fn list(description: &[u8], blocks: usize) {
     let mut count = 0;
     while count <= 65536 {
         let link = chain::advance(description, cursor);
-        if !goes_on(link, blocks, count) {
+        if !write_answer(link.drawn, blocks, count) {
+            return;
+        }
+        if !is_row(link.drawn) {
             return;
         }
         cursor = link.next;
@@ -68,12 +68,11 @@ fn list(description: &[u8], blocks: usize) {
     }
 }
 
-fn answer(description: &[u8]) {
+// How many digits a row has. Of what is refused there is no row.
+fn blocks_of(description: &[u8]) -> usize {
     match rules::read(description) {
-        Acceptance::Accepted { blocks, .. } => list(description, blocks),
-        Acceptance::Refused(r) => {
-            write_refusal(r);
-        }
+        Acceptance::Accepted { blocks, .. } => blocks,
+        Acceptance::Refused(_) => 0,
     }
 }
 
@@ -81,5 +80,6 @@ fn answer(description: &[u8]) {
 fn main() {
     let mut space = io::buffer();
     let count = io::read_full(STDIN_FILENO, &mut space);
-    answer(&space[..count]);
+    let description = &space[..count];
+    list(description, blocks_of(description));
 }
