@@ -4,14 +4,14 @@ use Prim.Native.Nat.{ℕ, _+_, _-_, _*_, _/_, _%_, _^_, _≤_, _<_}
 use native.Mathlib.Nat.{zero-add}
 use native.Mathlib.Omega.{arith}
 use mathlib.Core.Path.{_≡_, refl, sym, ap, ap₂, _∙_}
-use mathlib.Core.Bool.{Bool, true, false, not, cond}
+use mathlib.Core.Bool.{Bool, true, false, not, _&&_, cond}
 use mathlib.Core.List.{List, [], _∷_, _++_, map, List·Memᴰ}
 use lib.Dec.{ltb, lit<}
 use lib.ListN.{length, getD, length-map}
 use borrow.Author.Tests.{lt-ltb, le-ltb, ltb-true, ltb-false}
 use Rattle.description.specs.declared.workflow.Edge.{Edge}
 use Rattle.description.specs.Format.{Description, noEdge, edge, block, isDatum, namesBlock}
-use Rattle.description.specs.Invariants.{WellFormed, InRange}
+use Rattle.description.specs.Invariants.{Limits, WellFormed, InRange}
 use Rattle.rules.specs.Soundness.{mayStand, candidates}
 use Rattle.rules.specs.Placements.{serviceCloud, datumCloud}
 use Rattle.rules.specs.Terms.{blockTerm, edgeTerm, weightOf}
@@ -24,7 +24,7 @@ use Rattle.sequences.proofs.Numbers.{kept-most}
 use Rattle.sequences.proofs.Positions.{everywhere}
 use Rattle.sequences.proofs.Tests.{both-pass, cond-ind}
 use Rattle.walk.specs.Tables.{tables, allowed, bit, placements, ownTerm, edgeTerm as termIn, start, weight, Ready}
-use Rattle.lister.specs.Building.{maskOf, masksOf, ownOf, later, other, lateIn, edgesBefore, startsOf, orderOf, edgeIn, endOf, endsOf, termOf, termsOf, pairsOf, tablesOf, padded, joined, group}
+use Rattle.lister.specs.Building.{maskOf, masksOf, ownOf, later, other, lateIn, edgesBefore, startsOf, orderOf, edgeIn, endOf, endsOf, termOf, hasClouds, termAt, termsOf, pairsOf, tablesOf, padded, joined, group}
 use Rattle.lister.proofs.Bits.{bit-bits}
 use Rattle.lister.proofs.Filling.{getD-table, table-all}
 use Rattle.lister.proofs.Groups.{keep-all, keep-cut, from-split, map-append, joined-grows, joined-count, regroup}
@@ -65,14 +65,15 @@ module _ (d : Description) where
       let rem : (b * 8 + x) % 8 ≡ x = omega arith in
       getD-table 128 (λ i. blockTerm d (i / 8) (i % 8)) (b * 8 + x) (omega arith) ∙ ap₂ (blockTerm d) quo rem
 
-  entry-is : (i x y : ℕ) → i < 32 → x < 8 → y < 8 → getD (tablesOf d .terms) (i * 64 + x * 8 + y) 0 ≡ termOf d (edgeIn d i) x y
+  entry-is : Limits d → (i x y : ℕ) → i < length (d .edges) → x < length (d .clouds) → y < length (d .clouds)
+      → getD (tablesOf d .terms) (i * 64 + x * 8 + y) 0 ≡ termOf d (edgeIn d i) x y
   unfolding tablesOf termsOf
-  entry-is i x y h l k =
-      let a : (i * 64 + x * 8 + y) / 64 ≡ i = omega arith in
-      let b : (i * 64 + x * 8 + y) / 8 % 8 ≡ x = omega arith in
-      let c : (i * 64 + x * 8 + y) % 8 ≡ y = omega arith in
-      getD-table 2048 (λ j. termOf d (edgeIn d (j / 64)) (j / 8 % 8) (j % 8)) (i * 64 + x * 8 + y) (omega arith) ∙
-      ap (λ (j : ℕ). termOf d (edgeIn d j) ((i * 64 + x * 8 + y) / 8 % 8) ((i * 64 + x * 8 + y) % 8)) a ∙ ap₂ (termOf d (edgeIn d i)) b c
+  entry-is few i x y h l k =
+      let a : (i * 64 + x * 8 + y) / 64 ≡ i = omega (arith, few .clouds) in
+      let b : (i * 64 + x * 8 + y) / 8 % 8 ≡ x = omega (arith, few .clouds) in
+      let c : (i * 64 + x * 8 + y) % 8 ≡ y = omega (arith, few .clouds) in
+      getD-table 2048 (termAt d) (i * 64 + x * 8 + y) (omega (arith, few .edges, few .clouds)) ∙
+      rw (a, b, c) (simp (lt-ltb i (length (d .edges)) h, lt-ltb x (length (d .clouds)) l, lt-ltb y (length (d .clouds)) k))
 
   -- by its own ends, the later one first or not
   turned : (e : Edge) (q : List ℕ) → termOf d e (getD q (later e) 0) (getD q (other e) 0) ≡ edgeTerm d e (getD q (e .service) 0) (getD q (e .datum) 0)
@@ -85,12 +86,13 @@ module _ (d : Description) where
       go true = refl
       go false = refl
 
-  term-is : (q : List ℕ) → ((b : ℕ) → getD q b 0 < 8) → (i : ℕ) → i < 32
+  term-is : Limits d → (q : List ℕ) → ((b : ℕ) → getD q b 0 < length (d .clouds)) → (i : ℕ) → i < length (d .edges)
       → termIn (tablesOf d) q i ≡ edgeTerm d (edgeIn d i) (getD q (edgeIn d i .service) 0) (getD q (edgeIn d i .datum) 0)
   unfolding termIn
-  term-is q low i h =
-      rw (first-end i h, second-end i h)
-      (entry-is i (getD q (later (edgeIn d i)) 0) (getD q (other (edgeIn d i)) 0) h (low _) (low _) ∙ turned (edgeIn d i) q)
+  term-is few q there i h =
+      let i32 : i < 32 = omega (arith, few .edges) in
+      rw (first-end i i32, second-end i i32)
+      (entry-is few i (getD q (later (edgeIn d i)) 0) (getD q (other (edgeIn d i)) 0) h (there _) (there _) ∙ turned (edgeIn d i) q)
 
 -- tables that are each those of the description
 pub tables-are : (d : Description) {own terms ends starts masks pairs : List ℕ} → own ≡ ownOf d → terms ≡ termsOf d → ends ≡ endsOf d → starts ≡ startsOf d
@@ -162,10 +164,10 @@ module _ (d : Description) (wf : WellFormed d) where
       regroup (lateIn d) (λ n. f (edge d n)) m 16 (λ e. omega (arith, late-low e, wf .limits .blocks)) ∙
       ap sum (index-map f (d .edges) noEdge)
 
-  module _ (q : List ℕ) (low : (b : ℕ) → getD q b 0 < 8) where
+  module _ (q : List ℕ) (there : (b : ℕ) → getD q b 0 < length (d .clouds)) where
     own-sum : sum (map (ownTerm (tablesOf d) q) (below (length (d .blocks)))) ≡ sum (map (λ b. blockTerm d b (getD (padded d q) b 0)) (below (length (d .blocks))))
     own-sum = ap sum (map-below (ownTerm (tablesOf d) q) (λ b. blockTerm d b (getD (padded d q) b 0)) (length (d .blocks)) (λ b h.
-        own-is d q b (omega (arith, wf .limits .blocks)) (low b) ∙ ap (blockTerm d b) (sym (getD-padded q (16 - length (d .blocks)) b))))
+        own-is d q b (omega (arith, wf .limits .blocks)) (omega (arith, there b, wf .limits .clouds)) ∙ ap (blockTerm d b) (sym (getD-padded q (16 - length (d .blocks)) b))))
 
     -- what an edge adds at the placement
     added : Edge → ℕ
@@ -175,7 +177,7 @@ module _ (d : Description) (wf : WellFormed d) where
     unfolding added
     at-place i h =
         let z = 16 - length (d .blocks) in
-        term-is d q low i (omega (arith, wf .limits .edges)) ∙
+        term-is d (wf .limits) q there i h ∙
         ap₂ (edgeTerm d (edgeIn d i)) (sym (getD-padded q z (edgeIn d i .service))) (sym (getD-padded q z (edgeIn d i .datum)))
 
     edge-sum : sum (map (termIn (tablesOf d) q) (below (start (tablesOf d) (length (d .blocks))))) ≡ sum (map added (d .edges))
@@ -227,21 +229,20 @@ module _ (d : Description) (wf : WellFormed d) where
       (map-constant choices (0 ∷ []) (0 + n) z (λ b l. no-choice b (omega arith)))) ∙
       sequences-padded z (map (λ b. keep (allowed (tablesOf d) b) (below (length (d .clouds)))) (below n)))
 
-  -- a placement by the tables has a cloud below 8 for each block
-  pub placement-low : (q : List ℕ) → List·Memᴰ q (placements (tablesOf d) (length (d .clouds)) (length (d .blocks)))
-      → (length q ≡ length (d .blocks)) × ((b : ℕ) → getD q b 0 < 8)
+  -- a placement by the tables has a declared cloud for each block
+  pub placement-there : (q : List ℕ) → List·Memᴰ q (placements (tablesOf d) (length (d .clouds)) (length (d .blocks)))
+      → (length q ≡ length (d .blocks)) × ((b : ℕ) → getD q b 0 < length (d .clouds))
   unfolding placements
-  placement-low q m =
+  placement-there q m =
       let n = length (d .blocks) in
       let choices : ℕ → List ℕ = λ b. keep (allowed (tablesOf d) b) (below (length (d .clouds))) in
       let (size, at) = sequences-members 0 (map choices (below n)) q .0 m in
       let count : length (map choices (below n)) ≡ n = length-map (below n) choices ∙ length-below n in (
         size ∙ count,
-        everywhere (λ (x : ℕ). x < 8) 0 q (omega arith) (λ b h.
+        everywhere (λ (x : ℕ). x < length (d .clouds)) 0 q (wf .someCloud) (λ b h.
             let inside : b < length (below n) = omega (arith, size, count, length-below n) in
             let chosen = rw (getD-map choices (below n) b 0 [] inside) at (at b (omega (arith, size))) in
-            let k = below-members (length (d .clouds)) (getD q b 0) .0 (keep-members (allowed (tablesOf d) (getD (below n) b 0)) (below (length (d .clouds))) (getD q b 0) .0 chosen .0) in
-            omega (arith, wf .limits .clouds)),
+            below-members (length (d .clouds)) (getD q b 0) .0 (keep-members (allowed (tablesOf d) (getD (below n) b 0)) (below (length (d .clouds))) (getD q b 0) .0 chosen .0)),
       )
 
   -- ---- what the walk asks
@@ -253,8 +254,9 @@ module _ (d : Description) (wf : WellFormed d) where
 
     terms-low : (i : ℕ) → getD (tablesOf d .terms) i 0 < 34 * 2 ^ 53
     unfolding tablesOf termsOf
-    terms-low = table-all (λ (x : ℕ). x < 34 * 2 ^ 53) 2048 (λ i. termOf d (edgeIn d (i / 64)) (i / 8 % 8) (i % 8)) (lit< tt)
-        (λ i. term-small d r (edgeIn d (i / 64)) (i / 8 % 8) (i % 8))
+    terms-low = table-all (λ (x : ℕ). x < 34 * 2 ^ 53) 2048 (termAt d) (lit< tt)
+        (λ i. cond-ind (λ (x : ℕ). x < 34 * 2 ^ 53) (ltb (i / 64) (length (d .edges)) && hasClouds (length (d .clouds)) i) (termOf d (edgeIn d (i / 64)) (i / 8 % 8) (i % 8)) 0
+        (λ _. term-small d r (edgeIn d (i / 64)) (i / 8 % 8) (i % 8)) (λ _. lit< tt))
 
     -- the tables of a well-formed description whose numbers are in their ranges are as the walk asks
     pub ready : Ready (tablesOf d) (length (d .blocks))

@@ -6,7 +6,7 @@ use mathlib.Core.Path.{_≡_, refl, sym, ap, subst, _∙_}
 use mathlib.Core.Bool.{Bool, true, false, not, _&&_, _||_}
 use mathlib.Core.List.{List, [], _∷_, _++_, foldl, List·Memᴰ, Memᴰ·map}
 use mathlib.Core.Option.{Option, none, some}
-use lib.ListN.{length, replicate, length-map}
+use lib.ListN.{length, getD, replicate, length-map}
 use Rattle.description.specs.Bytes.{Bytes}
 use Rattle.description.specs.Format.{Description}
 use Rattle.description.specs.Invariants.{WellFormed, Bounded}
@@ -24,7 +24,7 @@ use Rattle.walk.specs.Tables.{stands as standsBy}
 use Rattle.walk.specs.Visiting.{isSecure, breaks16}
 use Rattle.walk.specs.Visiting.{earlier as earlierWalk}
 use Rattle.walk.proofs.Finding.{Kept}
-use Rattle.walk.specs.Walking.{seeAt, seeAll}
+use Rattle.walk.specs.Walking.{seeAt, seeAll, keepAt, keepAll}
 use Rattle.walk.specs.declared.visit.Seen.{Seen}
 use Rattle.walk.specs.declared.visit.Task.{Task}
 use Rattle.walk.proofs.Digits.{pack-before, pack-small, digits-pack}
@@ -36,7 +36,7 @@ use Rattle.lister.specs.Building.{tablesOf, ownOf, pairsOf, pairAt, padd
 use Rattle.lister.specs.Joining.{Joined, met}
 use Rattle.lister.specs.Rows.{Census, census, securePlacements, earlier, rowOf, later, draw}
 use Rattle.lister.specs.Seeing.{nothingSeen, TaskOf}
-use Rattle.lister.proofs.Built.{weights, allowed-is, placements-are, placement-low}
+use Rattle.lister.proofs.Built.{weights, allowed-is, placements-are, placement-there}
 use Rattle.lister.proofs.Counting.{census-sum}
 use Rattle.lister.proofs.Filling.{getD-table}
 use Rattle.lister.proofs.RowTest.{RowTables, tests-same}
@@ -71,13 +71,13 @@ pub joined : (s : List ℕ) (d : Description) → Bytes s → read s ≡ ok d �
 unfolding securePlacements
 joined s d b a = record {
   candidatesAre = placements-are d w;
-  sized = λ q m. placement-low d w q m .0;
-  low = λ q m. placement-low d w q m .1;
+  sized = λ q m. placement-there d w q m .0;
+  low = placement-low;
   secureIs = λ q m. ap isSecure (weighs q m) ∙ sym (weight-secure d (padded d q) bounded);
   costIs = λ q m h. weighs q m ∙ weight-cost d (padded d q) bounded h;
   breaksIs = λ q m h. ap breaks16 (weighs q m) ∙ sym (weight-16 d (padded d q) bounded);
   standsIs = λ q m h.
-      tests-same d w (tablesOf d) (rowTables d w) q (placement-low d w q m .1) ∙
+      tests-same d w (tablesOf d) (rowTables d w) q (placement-low q m) ∙
       sym (stands-by-storage s d a (padded d q) (secure-member q m h));
 }
   where
@@ -87,8 +87,11 @@ joined s d b a = record {
     bounded : Bounded d
     bounded = read-bounded s d a b
 
+    placement-low : (q : List ℕ) → List·Memᴰ q (met d (tablesOf d)) → (b : ℕ) → getD q b 0 < 8
+    placement-low q m b = omega (arith, placement-there d w q m .1 b, w .limits .clouds)
+
     weighs : (q : List ℕ) → List·Memᴰ q (met d (tablesOf d)) → weight (tablesOf d) (length (d .blocks)) q ≡ weightOf d (padded d q)
-    weighs q m = weights d w q (placement-low d w q m .1)
+    weighs q m = weights d w q (placement-there d w q m .1)
 
     secure-member : (q : List ℕ) → List·Memᴰ q (met d (tablesOf d)) → secure d (padded d q) ≡ true → List·Memᴰ (padded d q) (securePlacements d)
     secure-member q m h = keep-members (secure d) (candidates d) (padded d q) .1
@@ -101,14 +104,29 @@ before-behind [] (y ∷ u) z e = absurd (omega arith)
 before-behind (x ∷ q) [] z e = absurd (omega arith)
 before-behind (x ∷ q) (y ∷ u) z e = ap (λ b. ltb x y || (eqb x y && b)) (before-behind q u z (suc-inj e))
 
--- with no candidates there is nothing to see
-pub none-seen : (d : Description) → WellFormed d → count d ≡ 0 → (task : Task) (s : Seen) → seeAll (tablesOf d) (length (d .clouds)) (length (d .blocks)) task s ≡ s
-unfolding seeAll
-none-seen d w e task s = go (met d (tablesOf d)) (sym (length-map (met d (tablesOf d)) (padded d)) ∙ ap length (placements-are d w) ∙ count-is-length d ∙ e)
+-- with no candidates there is nothing to see, and nothing to keep
+none-met : (d : Description) → WellFormed d → count d ≡ 0 → met d (tablesOf d) ≡ []
+none-met d w e = go (met d (tablesOf d)) (sym (length-map (met d (tablesOf d)) (padded d)) ∙ ap length (placements-are d w) ∙ count-is-length d ∙ e)
   where
-    go : (l : List (List ℕ)) → length l ≡ 0 → foldl (seeAt (tablesOf d) (length (d .blocks)) task) s l ≡ s
+    go : (l : List (List ℕ)) → length l ≡ 0 → l ≡ []
     go [] z = refl
     go (q ∷ l) z = absurd (omega arith)
+
+module _ (d : Description) (w : WellFormed d) (e : count d ≡ 0) (task : Task) (s : Seen) where
+  pub none-seen : seeAll (tablesOf d) (length (d .clouds)) (length (d .blocks)) task s ≡ s
+  unfolding seeAll
+  none-seen = ap (foldl (seeAt (tablesOf d) (length (d .blocks)) task) s) (none-met d w e)
+
+  pub none-kept-words : (words : List ℕ) → keepAll (tablesOf d) (length (d .clouds)) (length (d .blocks)) task s words ≡ words
+  unfolding keepAll
+  none-kept-words words = ap (λ l. foldl (keepAt (tablesOf d) (length (d .blocks)) task) (s, words) l .1) (none-met d w e)
+
+-- the walk's numbers order placements as their bytes do
+pub ordered : (d : Description) → Joined d (tablesOf d) → (q u : List ℕ) → List·Memᴰ q (met d (tablesOf d)) → List·Memᴰ u (met d (tablesOf d))
+    → before (padded d q) (padded d u) ≡ ltb (pack q) (pack u)
+ordered d j q u m k =
+    before-behind q u (replicate (16 - length (d .blocks)) 0) (j .sized q m ∙ sym (j .sized u k)) ∙
+    sym (pack-before q u (j .sized q m ∙ sym (j .sized u k)) (j .low q m) (j .low u k))
 
 -- ---- the census
 
@@ -165,15 +183,10 @@ KeptRow d (some row) r =
 
 pub kept-by : (s : List ℕ) (d : Description) → Bytes s → read s ≡ ok d → (c : Cursor) (t : Task) → TaskOf c (length (d .blocks)) t → (r : Seen)
     → r ≡ seeAll (tablesOf d) (length (d .clouds)) (length (d .blocks)) t nothingSeen → KeptRow d (draw d c) r
-kept-by s d b a c t h r e = subst (KeptRow d (draw d c)) (sym e) (go (draw d c) (draws d (tablesOf d) j c t ordered floor (h .draws) nothingSeen refl))
+kept-by s d b a c t h r e = subst (KeptRow d (draw d c)) (sym e) (go (draw d c) (draws d (tablesOf d) j c t (ordered d j) floor (h .draws) nothingSeen refl))
   where
     j : Joined d (tablesOf d)
     j = joined s d b a
-
-    ordered : (q u : List ℕ) → List·Memᴰ q (met d (tablesOf d)) → List·Memᴰ u (met d (tablesOf d)) → before (padded d q) (padded d u) ≡ ltb (pack q) (pack u)
-    ordered q u m k =
-        before-behind q u (replicate (16 - length (d .blocks)) 0) (j .sized q m ∙ sym (j .sized u k)) ∙
-        sym (pack-before q u (j .sized q m ∙ sym (j .sized u k)) (j .low q m) (j .low u k))
 
     floor : (q : List ℕ) → List·Memᴰ q (met d (tablesOf d)) → later c (rowOf d (padded d q)) ≡ not (earlierWalk (cost d (padded d q)) (pack q) (t .cost) (t .place))
     floor q m = h .floor (cost d (padded d q)) q (j .sized q m) (j .low q m)

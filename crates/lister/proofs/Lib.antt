@@ -14,6 +14,7 @@ pub mod Paired
 pub mod RowOrder
 pub mod RowTest
 pub mod Scanning
+pub mod Sides
 pub mod Small
 pub mod Standing
 pub mod Walked

@@ -6,7 +6,7 @@ use mathlib.Core.Path.{_≡_, refl, sym, ap, subst, _∙_}
 use mathlib.Core.Bool.{Bool, true, false, not, _&&_, _||_, cond, and-false, true≢false}
 use mathlib.Core.List.{List, [], _∷_, map, foldl, foldl-map, List·Memᴰ, List·Memᴰ·head, List·Memᴰ·tail}
 use mathlib.Core.Option.{Option, none, some}
-use lib.ListN.{length}
+use lib.ListN.{length, length-map}
 use borrow.Author.Tests.{not-true}
 use Rattle.description.specs.Format.{Description}
 use Rattle.rules.specs.Soundness.{candidates}
@@ -32,19 +32,9 @@ use Rattle.lister.proofs.Drawing.{draw-walks}
 use Rattle.sequences.specs.Draws.{betterIf, beats}
 use Rattle.sequences.specs.Lists.{keep, before}
 use lib.Dec.{ltb, eqb}
-use Rattle.sequences.proofs.Agreeing.{keep-agree}
+use Rattle.sequences.proofs.Agreeing.{keep-agree, keep-map}
 use Rattle.sequences.proofs.Parts.{keep-both}
 use Rattle.sequences.proofs.Tests.{both-pass}
-
--- how many of a mapped list pass: as many as pass the test of what they are mapped to
-keep-mapped : {A B : Type 0} (f : A → B) (t : B → Bool) (l : List A) → length (keep t (map f l)) ≡ length (keep (λ a. t (f a)) l)
-keep-mapped f t [] = refl
-keep-mapped f t (a ∷ l) = step (t (f a)) (keep-mapped f t l)
-  where
-    step : (b : Bool) → length (keep t (map f l)) ≡ length (keep (λ x. t (f x)) l)
-        → length (cond b (f a ∷ keep t (map f l)) (keep t (map f l))) ≡ length (cond b (a ∷ keep (λ x. t (f x)) l) (keep (λ x. t (f x)) l))
-    step true e = ap suc e
-    step false e = e
 
 -- the rows are as many as the candidates that are secure and stand
 rows-number : (d : Description) → length (rows d) ≡ length (keep (λ p. secure d p && stands d p) (candidates d))
@@ -68,8 +58,8 @@ module _ (d : Description) (t : Tables) (j : Joined d t) where
   among : (test : List ℕ → Bool) (mine : List ℕ → Bool) → ((q : List ℕ) → List·Memᴰ q (met d t) → mine q ≡ test (padded d q))
       → length (keep mine (met d t)) ≡ length (keep test (candidates d))
   among test mine h =
-      ap length (keep-agree mine (λ q. test (padded d q)) (met d t) h) ∙ sym (keep-mapped (padded d) test (met d t)) ∙
-      ap (λ l. length (keep test l)) (j .candidatesAre)
+      ap length (keep-agree mine (λ q. test (padded d q)) (met d t) h) ∙ sym (length-map (keep (λ q. test (padded d q)) (met d t)) (padded d)) ∙
+      ap length (sym (keep-map (padded d) test (met d t))) ∙ ap (λ l. length (keep test l)) (j .candidatesAre)
 
   -- what the walk sees of each kind
   insecure : (q : List ℕ) → List·Memᴰ q (met d t) → not (isSecure (W q)) ≡ not (secure d (padded d q))
@@ -94,7 +84,7 @@ module _ (d : Description) (t : Tables) (j : Joined d t) where
           rest false true f = refl
           rest false false f = absurd (true≢false f)
 
-  is-row : (q : List ℕ) → List·Memᴰ q (met d t) → (isSecure (W q) && standsBy t n q) ≡ (secure d (padded d q) && stands d (padded d q))
+  pub is-row : (q : List ℕ) → List·Memᴰ q (met d t) → (isSecure (W q) && standsBy t n q) ≡ (secure d (padded d q) && stands d (padded d q))
   is-row q m = ap (λ x. x && standsBy t n q) (j .secureIs q m) ∙ go (secure d (padded d q)) refl
     where
       go : (b : Bool) → secure d (padded d q) ≡ b → (b && standsBy t n q) ≡ (b && stands d (padded d q))

@@ -6,7 +6,7 @@ ghost use Rattle.sequences.specs.Results.{ok};
 ghost use Rattle.description.specs.Invariants.{WellFormed, InRange};
 ghost use Rattle.description.specs.Meaning.{describes};
 ghost use Rattle.rules.specs.Soundness.{read};
-ghost use Rattle.walk.specs.Walking.{seeAll};
+ghost use Rattle.walk.specs.Walking.{seeAll, keepAll};
 ghost use Rattle.lister.specs.Answers.{censusAnswer, drawAnswer, figuresOf, rowBeside, zeroRow};
 ghost use Rattle.lister.specs.Building.{tablesOf};
 ghost use Rattle.lister.specs.Calls.{censusCall, drawCall};
@@ -26,6 +26,9 @@ use walk::floor::floor_place;
 use walk::packing::unpacked;
 use walk::visit::Seen;
 use walk::visit::Task;
+use walk::visit::seen_of;
+use walk::visit::seen_words;
+use walk::visit::task_words;
 use walk::walk::walk_all;
 
 // Document 01's "row": the cost and the sixteen cloud numbers of the placement that stands for its option.
@@ -68,11 +71,12 @@ pub struct Drawn {
     pub row: Row,
 }
 
-// All placements of a workflow are seen, once each.
-fn seen_by(w: Workflow, task: Task) -> Seen
+// All placements of a workflow are seen, once each; the rows that are counted are kept in lent words, as many as fit.
+pub fn seen_by(w: Workflow, task: Task, kept: &mut [u64]) -> Seen
     requires { ⌜ WellFormed (describes w) ⌝ }
     requires { ⌜ InRange (describes w) ⌝ }
     ensures { λ r. ⌜ r ≡ seeAll (tablesOf (describes w)) (length (describes w .clouds)) (length (describes w .blocks)) task nothingSeen ⌝ }
+    ensures { λ _. ⌜ now (kept .exit) ≡ keepAll (tablesOf (describes w)) (length (describes w .clouds)) (length (describes w .blocks)) task nothingSeen (now (kept .entry)) ⌝ }
 {
     let nothing = Seen {
         breaking16: 0,
@@ -94,6 +98,8 @@ fn seen_by(w: Workflow, task: Task) -> Seen
     let pairs = tables::pairs(w);
     let clouds = cloud_count(w) as u64;
     let blocks = block_count(w);
+    let asked = task_words(task);
+    let mut seen = seen_words(nothing);
     walk_all(
         &own,
         &terms,
@@ -101,14 +107,16 @@ fn seen_by(w: Workflow, task: Task) -> Seen
         &starts,
         &masks,
         &pairs,
+        &asked,
         clouds,
         blocks,
-        task,
-        nothing,
-    )
+        &mut seen,
+        kept,
+    );
+    seen_of(seen)
 }
 
-fn count_all(description: &[u8], w: Workflow) -> Figures
+pub fn count_all(description: &[u8], w: Workflow) -> Figures
     requires { ⌜ read (now description) ≡ ok (describes w) ⌝ }
     ensures { λ r. ⌜ figuresOf r ≡ census (describes w) ⌝ }
 {
@@ -117,7 +125,8 @@ fn count_all(description: &[u8], w: Workflow) -> Figures
         cost: 0,
         place: 0,
     };
-    let s = seen_by(w, task);
+    let mut none = [0u64; 1];
+    let s = seen_by(w, task, &mut none);
     Figures {
         candidates: s.breaking16 + s.breaking17only + s.secure,
         breaking16: s.breaking16,
@@ -178,7 +187,8 @@ fn row_past(description: &[u8], w: Workflow, cursor: Cursor) -> Drawn
 {
     let blocks = block_count(w);
     let task = task_of(cursor, blocks);
-    let s = seen_by(w, task);
+    let mut none = [0u64; 1];
+    let s = seen_by(w, task, &mut none);
     if s.cost == 9007199254740992 {
         return without_row(Answer::Finished);
     }

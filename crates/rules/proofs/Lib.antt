@@ -11,6 +11,7 @@ pub mod Options
 pub mod Paths
 pub mod Reached
 pub mod Representatives
+pub mod Sides
 pub mod Storage
 pub mod Transferring
 pub mod Weights

@@ -5,7 +5,10 @@ use mathlib.Core.Bool.{Bool, not, _&&_, cond}
 use mathlib.Core.List.{List, map}
 use lib.Dec.{eqb}
 use lib.ListN.{length, getD}
+use Rattle.description.specs.declared.workflow.Block.{Block}
+use Rattle.description.specs.declared.workflow.Cloud.{Cloud}
 use Rattle.description.specs.declared.workflow.Edge.{Edge}
+use Rattle.description.specs.declared.workflow.Way.{Way}
 use Rattle.description.specs.Format.{Description, cloud, block, isWrite}
 use Rattle.rules.specs.Soundness.{covers, cloudLevel, blockLevel}
 use Rattle.rules.specs.Placements.{serviceCloud, datumCloud}
@@ -29,6 +32,14 @@ edgeExposes d e x y = not (eqb x y) && not (covers (cloudLevel d x) (blockLevel 
 -- the charge, with 2^53 for breaking rule 16 and 33 times that for breaking rule 17: there are at most 32 edges, and a cost is below 2^53
 unfoldable pub edgeTerm : Description → Edge → (x y : ℕ) → ℕ
 edgeTerm d e x y = edgeCharge d e x y + cond (edgeExposes d e x y) (cond (isWrite (e .way)) (33 * 2 ^ 53) (2 ^ 53)) 0
+
+-- what each end of an edge adds by its own cloud, where the two stand apart: the service's with the penalty, and the datum's
+unfoldable pub serviceSide : Way → Cloud → Block → ℕ
+serviceSide way c datum =
+    cond (isWrite way) (c .outward) (c .inward) * chargedOf (datum .kind) + cond (covers (c .level) (datum .level)) 0 (cond (isWrite way) (33 * 2 ^ 53) (2 ^ 53))
+
+unfoldable pub datumSide : Way → Cloud → Block → ℕ
+datumSide way c datum = cond (not (isWrite way)) (c .outward) (c .inward) * chargedOf (datum .kind)
 
 -- the weight of a placement
 unfoldable pub weightOf : Description → List ℕ → ℕ

@@ -3,9 +3,9 @@
 use Prim.Native.Nat.{ℕ, suc, _≤_, _<_, zero-le}
 use native.Mathlib.Nat.{zero-lt-suc, suc-inj, le-refl}
 use native.Mathlib.Omega.{arith}
-use mathlib.Core.Path.{_≡_, refl, sym, ap₂}
+use mathlib.Core.Path.{_≡_, refl, sym, ap, ap₂}
 use mathlib.Core.Logic.{_↔_, inl, inr}
-use mathlib.Core.Bool.{Bool, true, false, false≢true}
+use mathlib.Core.Bool.{Bool, true, false, cond, false≢true}
 use mathlib.Core.List.{List, [], _∷_, map, head-eq-of-cons-eq, tail-eq-of-cons-eq}
 use mathlib.Core.List.{List·Memᴰ, List·Memᴰ·head, List·Memᴰ·tail, List·Memᴰ·not-nil, List·Memᴰ·cases-cons}
 use lib.ListN.{length, getD}
@@ -39,6 +39,16 @@ module _ {A B : Type 0} (f g : A → B) where
 pub keep-agree : {A : Type 0} (t u : A → Bool) (xs : List A) → ((x : A) → List·Memᴰ x xs → t x ≡ u x) → keep t xs ≡ keep u xs
 keep-agree t u [] h = refl
 keep-agree t u (x ∷ xs) h = rw (h x (List·Memᴰ·head refl), keep-agree t u xs (λ y m. h y (List·Memᴰ·tail m))) refl
+
+-- what is kept of a mapped list is the image of what passes there
+pub keep-map : {A B : Type 0} (f : A → B) (t : B → Bool) (l : List A) → keep t (map f l) ≡ map f (keep (λ a. t (f a)) l)
+keep-map f t [] = refl
+keep-map f t (a ∷ l) = step (t (f a)) (keep-map f t l)
+  where
+    step : (b : Bool) → keep t (map f l) ≡ map f (keep (λ x. t (f x)) l)
+        → cond b (f a ∷ keep t (map f l)) (keep t (map f l)) ≡ map f (cond b (a ∷ keep (λ x. t (f x)) l) (keep (λ x. t (f x)) l))
+    step true e = ap (λ r. f a ∷ r) e
+    step false e = e
 
 -- where each fails, nothing is kept
 pub keep-none : {A : Type 0} (t : A → Bool) (xs : List A) → ((x : A) → List·Memᴰ x xs → t x ≡ false) → keep t xs ≡ []

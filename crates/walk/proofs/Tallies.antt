@@ -10,7 +10,7 @@ use lib.ListN.{length}
 use Rattle.sequences.specs.Lists.{keep}
 use Rattle.walk.specs.declared.visit.Seen.{Seen}
 use Rattle.walk.specs.declared.visit.Task.{Task}
-use Rattle.walk.specs.Visiting.{see, isSecure, breaks16, wanted}
+use Rattle.walk.specs.Visiting.{see, isSecure, breaks16, wanted, secureIn, rowIn}
 
 -- one where the test passes, none where it fails
 abbrev pub one : Bool → ℕ
@@ -20,24 +20,10 @@ one b = cond b 1 0
 
 module _ (t : Task) (w p : ℕ) (st : Bool) (s : Seen) where
   abbrev pub row : Seen
-  row = record {
-    breaking16 = s .breaking16;
-    breaking17only = s .breaking17only;
-    secure = s .secure + 1;
-    rows = s .rows + 1;
-    cost = cond (wanted t s w p) w (s .cost);
-    place = cond (wanted t s w p) p (s .place);
-  }
+  row = rowIn (wanted t s w p) w p s
 
   abbrev pub other : Seen
-  other = record {
-    breaking16 = s .breaking16;
-    breaking17only = s .breaking17only;
-    secure = s .secure + 1;
-    rows = s .rows;
-    cost = s .cost;
-    place = s .place;
-  }
+  other = secureIn s
 
   abbrev pub sixteen : Seen
   sixteen = record {
@@ -93,7 +79,8 @@ module _ (t : Task) (w p : ℕ) (st : Bool) (s : Seen) where
       go false b true = sym (add-zero _)
       go false b false = sym (add-zero _)
 
-  see-rows : t .counting ≡ true → see t w p st s .rows ≡ s .rows + one (isSecure w && st)
+  -- a walk that counts has one row more where a secure placement stands
+  pub see-rows : t .counting ≡ true → see t w p st s .rows ≡ s .rows + one (isSecure w && st)
   see-rows h =
       ap (λ x. x .rows) see-is ∙ ap (λ k. pick (isSecure w) ((k || wanted t s w p) && st) (breaks16 w) .rows) h ∙ go (isSecure w) st (breaks16 w)
     where

@@ -5,7 +5,7 @@ use native.Mathlib.Numerals.{add-one}
 use native.Mathlib.Omega.{arith}
 use mathlib.Core.Path.{_≡_, refl, sym, ap, ap₂, _∙_}
 use mathlib.Core.Bool.{Bool, true, false, _&&_, _||_}
-use mathlib.Core.List.{List, [], _∷_, foldl-append}
+use mathlib.Core.List.{List, [], _∷_, foldl, foldl-append}
 use lib.ListN.{length, getD}
 use borrow.Author.Tests.{eq-eqb, ne-eqb}
 use Rattle.sequences.specs.Lists.{below}
@@ -14,8 +14,8 @@ use Rattle.walk.specs.declared.visit.Seen.{Seen}
 use Rattle.walk.specs.declared.visit.Task.{Task}
 use Rattle.walk.specs.Packing.{digits}
 use Rattle.walk.specs.Tables.{Tables, tables, allowed, bit, ownTerm, edgeTerm, start, weight, movesTo, stands, placements, Paired, Ready}
-use Rattle.walk.specs.Visiting.{see, isSecure, breaks16, wanted}
-use Rattle.walk.specs.Walking.{seeAt, seeAll}
+use Rattle.walk.specs.Visiting.{see, keepRow, isSecure, breaks16, wanted}
+use Rattle.walk.specs.Walking.{Sight, seeAt, seeAll, keepAt, keepAll}
 use Rattle.walk.specs.Turning.{Setting, Carried, tally, completions, branches, seeThese, Under, Walked}
 use Rattle.walk.proofs.Digits.{digits-length, digits-snoc, pack-digits}
 use Rattle.walk.proofs.Branches.{branches-next, branches-all, branch-shut, branch-open, completions-all, completions-none}
@@ -87,20 +87,20 @@ room-blocks n h = omega (arith, pow-le-pow-right {n = 8} (omega arith) {i = n} {
 module _ (S : Setting) where
   -- ---- the loop over the clouds
 
-  pub none-yet : (s : Seen) (n : ℕ) (q : List ℕ) → s ≡ seeThese S s (branches S n q (below 0))
+  pub none-yet : (s : Sight) (n : ℕ) (q : List ℕ) → s ≡ seeThese S s (branches S n q (below 0))
   unfolding seeThese branches
   none-yet s n q = refl
 
-  pub one-more : (s b r : Seen) (c n : ℕ) (q : List ℕ) → b ≡ seeThese S s (branches S n q (below c)) → r ≡ seeThese S b (branches S n q (c ∷ []))
+  pub one-more : (s b r : Sight) (c n : ℕ) (q : List ℕ) → b ≡ seeThese S s (branches S n q (below c)) → r ≡ seeThese S b (branches S n q (c ∷ []))
       → r ≡ seeThese S s (branches S n q (below (c + 1)))
   unfolding seeThese
   one-more s b r c n q e h =
       h ∙ ap (λ x. seeThese S x (branches S n q (c ∷ []))) e
-      ∙ sym (foldl-append (seeAt (S .table) (S .blocks) (S .task)) s (branches S n q (below c)) (branches S n q (c ∷ [])))
+      ∙ sym (foldl-append (keepAt (S .table) (S .blocks) (S .task)) s (branches S n q (below c)) (branches S n q (c ∷ [])))
       ∙ ap (seeThese S s) (sym (branches-next S n q c) ∙ ap (λ x. branches S n q (below x)) (sym (add-one c)))
 
-  pub loop-walked : (left c : ℕ) (q : List ℕ) (s r : Seen) → 0 < left → c ≡ S .clouds → r ≡ seeThese S s (branches S (left - 1) q (below c))
-      → tally r ≤ tally s + 2 * 8 ^ left → Walked S s left (completions S left q) r
+  pub loop-walked : (left c : ℕ) (q : List ℕ) (s r : Sight) → 0 < left → c ≡ S .clouds → r ≡ seeThese S s (branches S (left - 1) q (below c))
+      → tally (r .0) ≤ tally (s .0) + 2 * 8 ^ left → Walked S s left (completions S left q) r
   loop-walked left c q s r l e h m =
       let k : suc (left - 1) ≡ left = omega arith in
       let a : branches S (left - 1) q (below c) ≡ completions S left q = ap (λ x. branches S (left - 1) q (below x)) e ∙ branches-all S (left - 1) q ∙ ap (λ x. completions S x q) k in
@@ -108,21 +108,26 @@ module _ (S : Setting) where
 
   -- ---- the end
 
-  leaf : (w place : ℕ) (s r : Seen) → Under S (S .blocks) 0 w place
-      → r ≡ see (S .task) w place (stands (blocksOf (S .table)) (S .blocks) (digits (S .blocks) place)) s
+  -- what a visit does to what was seen and kept
+  abbrev visited : (w place : ℕ) → Sight → Sight
+  visited w place s =
+      let st = stands (blocksOf (S .table)) (S .blocks) (digits (S .blocks) place) in
+      (see (S .task) w place st (s .0), keepRow (S .task) w place st (s .0) (s .1))
+
+  leaf : (w place : ℕ) (s r : Sight) → Under S (S .blocks) 0 w place → r ≡ visited w place s
       → Walked S s 0 (completions S 0 (digits (S .blocks) place)) r
   unfolding seeThese
   leaf w place s r u h =
       let q = digits (S .blocks) place in
+      let both : ℕ → ℕ → Bool → Sight = λ x y z. (see (S .task) x y z (s .0), keepRow (S .task) x y z (s .0) (s .1)) in
       record {
-        same = h ∙ ap₂ (λ x y. see (S .task) x place y s) (u .carried) (stands-blocks (S .table) (S .blocks) q)
-            ∙ ap (λ x. see (S .task) (weight (S .table) (S .blocks) q) x (stands (S .table) (S .blocks) q) s) (sym (pack-digits (S .blocks) place (u .low)))
+        same = h ∙ ap₂ (λ x z. both x place z) (u .carried) (stands-blocks (S .table) (S .blocks) q)
+            ∙ ap (λ y. both (weight (S .table) (S .blocks) q) y (stands (S .table) (S .blocks) q)) (sym (pack-digits (S .blocks) place (u .low)))
             ∙ ap (seeThese S s) (sym (completions-none S q));
-        counted = rw h (see-tally (S .task) w place (stands (blocksOf (S .table)) (S .blocks) q) s);
+        counted = rw h (see-tally (S .task) w place (stands (blocksOf (S .table)) (S .blocks) q) (s .0));
       }
 
-  pub leaf-walked : (left w place : ℕ) (s r : Seen) → left ≡ 0 → Under S (S .blocks - left) left w place
-      → r ≡ see (S .task) w place (stands (blocksOf (S .table)) (S .blocks) (digits (S .blocks) place)) s
+  pub leaf-walked : (left w place : ℕ) (s r : Sight) → left ≡ 0 → Under S (S .blocks - left) left w place → r ≡ visited w place s
       → Walked S s left (completions S left (digits (S .blocks - left) place)) r
   leaf-walked left w place s r e u h =
       let z : S .blocks - 0 ≡ S .blocks = omega arith in
@@ -133,7 +138,7 @@ module _ (S : Setting) where
 
   -- ---- a turn
 
-  pub shut : (n k place c : ℕ) → getD (S .table .masks) k 0 / 2 ^ c % 2 ≡ 0 → (s : Seen) → Walked S s n (branches S n (digits k place) (c ∷ [])) s
+  pub shut : (n k place c : ℕ) → getD (S .table .masks) k 0 / 2 ^ c % 2 ≡ 0 → (s : Sight) → Walked S s n (branches S n (digits k place) (c ∷ [])) s
   unfolding bit seeThese
   shut n k place c h s =
       let f : allowed (S .table) (length (digits k place)) c ≡ false = rw (digits-length k place) (ne-eqb (getD (S .table .masks) k 0 / 2 ^ c % 2) 1 (omega arith)) in
@@ -159,7 +164,7 @@ module _ (S : Setting) where
           carried = rw k (carried-whole (S .table) (S .blocks - left + 1) (place * 8 + c) more e);
         }
 
-    pub open-walked : (s r : Seen) → (getD (S .table .masks) (S .blocks - left) 0 / 2 ^ c % 2 ≡ 0 → ⊥)
+    pub open-walked : (s r : Sight) → (getD (S .table .masks) (S .blocks - left) 0 / 2 ^ c % 2 ≡ 0 → ⊥)
         → Walked S s (left - 1) (completions S (left - 1) (digits (S .blocks - (left - 1)) (place * 8 + c))) r
         → Walked S s (left - 1) (branches S (left - 1) (digits (S .blocks - left) place) (c ∷ [])) r
     open-walked s r n v =
@@ -179,9 +184,15 @@ module _ (S : Setting) where
         carried = carried-none (S .table) (S .blocks) r;
       })
 
-  pub all-walked : (s r : Seen) → Walked S s (S .blocks) (completions S (S .blocks) (digits (S .blocks - S .blocks) 0)) r
-      → r ≡ seeAll (S .table) (S .clouds) (S .blocks) (S .task) s
-  unfolding seeAll seeThese placements digits
+  -- what is seen does not hang on what is kept
+  seen-first : (qs : List (List ℕ)) (s : Sight) → foldl (keepAt (S .table) (S .blocks) (S .task)) s qs .0 ≡ foldl (seeAt (S .table) (S .blocks) (S .task)) (s .0) qs
+  seen-first [] s = refl
+  seen-first (q ∷ qs) s = seen-first qs (keepAt (S .table) (S .blocks) (S .task) s q)
+
+  pub all-walked : (s r : Sight) → Walked S s (S .blocks) (completions S (S .blocks) (digits (S .blocks - S .blocks) 0)) r
+      → (r .0 ≡ seeAll (S .table) (S .clouds) (S .blocks) (S .task) (s .0)) × (r .1 ≡ keepAll (S .table) (S .clouds) (S .blocks) (S .task) (s .0) (s .1))
+  unfolding seeAll keepAll seeThese placements digits
   all-walked s r v =
       let k : S .blocks - S .blocks ≡ 0 = omega arith in
-      v .same ∙ ap (λ x. seeThese S s (completions S (S .blocks) (digits x 0))) k ∙ ap (seeThese S s) (completions-all S (S .blocks))
+      let e = v .same ∙ ap (λ x. seeThese S s (completions S (S .blocks) (digits x 0))) k ∙ ap (seeThese S s) (completions-all S (S .blocks)) in
+      (ap (λ x. x .0) e ∙ seen-first (placements (S .table) (S .clouds) (S .blocks)) s, ap (λ x. x .1) e)

@@ -8,7 +8,7 @@ use Rattle.walk.specs.declared.visit.Seen.{Seen}
 use Rattle.walk.specs.declared.visit.Task.{Task}
 use Rattle.walk.specs.Packing.{digits}
 use Rattle.walk.specs.Tables.{Tables, tables, allowed, weight, Ready}
-use Rattle.walk.specs.Walking.{seeAt}
+use Rattle.walk.specs.Walking.{Sight, keepAt}
 
 -- what stays the same all the way down
 pub record Setting : Type 0 where
@@ -43,8 +43,8 @@ module _ (S : Setting) where
   branches n q ks = map (λ p. q ++ p) (prefixed (sequences (choices (suc (length q)) n)) (keep (allowed (S .table) (length q)) ks))
 
   -- placements are seen, one after the other
-  unfoldable pub seeThese : Seen → List (List ℕ) → Seen
-  seeThese s qs = foldl (seeAt (S .table) (S .blocks) (S .task)) s qs
+  unfoldable pub seeThese : Sight → List (List ℕ) → Sight
+  seeThese v qs = foldl (keepAt (S .table) (S .blocks) (S .task)) v qs
 
   -- k blocks have their clouds, the digits of place, and n have none yet; w is the weight of those k
   pub record Under (k n w place : ℕ) : Type 0 where
@@ -54,15 +54,15 @@ module _ (S : Setting) where
     pub low : place < 8 ^ k
     pub carried : Carried (S .table) k place w
 
-  -- from s, all of qs were seen, and no more was counted than for 8 ^ n placements
-  pub record Walked (s : Seen) (n : ℕ) (qs : List (List ℕ)) (r : Seen) : Type 0 where
-    pub same : r ≡ seeThese s qs
-    pub counted : tally r ≤ tally s + 2 * 8 ^ n
+  -- from v, all of qs were seen, and no more was counted than for 8 ^ n placements
+  pub record Walked (v : Sight) (n : ℕ) (qs : List (List ℕ)) (r : Sight) : Type 0 where
+    pub same : r ≡ seeThese v qs
+    pub counted : tally (r .0) ≤ tally (v .0) + 2 * 8 ^ n
 
   -- the walk below the first k digits of place, with n blocks to follow
-  abbrev pub WalkedBelow : (s : Seen) (k n place : ℕ) (r : Seen) → Type 0
-  WalkedBelow s k n place r = Walked s n (completions n (digits k place)) r
+  abbrev pub WalkedBelow : (v : Sight) (k n place : ℕ) (r : Sight) → Type 0
+  WalkedBelow v k n place r = Walked v n (completions n (digits k place)) r
 
   -- the turn of cloud c there, with n blocks to follow
-  abbrev pub Turned : (s : Seen) (k n place c : ℕ) (r : Seen) → Type 0
-  Turned s k n place c r = Walked s n (branches n (digits k place) (c ∷ [])) r
+  abbrev pub Turned : (v : Sight) (k n place c : ℕ) (r : Sight) → Type 0
+  Turned v k n place c r = Walked v n (branches n (digits k place) (c ∷ [])) r

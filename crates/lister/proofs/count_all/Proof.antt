@@ -12,8 +12,15 @@ use Rattle.lister.proofs.Joins.{census-is, counted-by, candidates-few}
 use Rattle.lister.proofs.count_all.Statement.{statement}
 use Rattle.lister.proofs.count_all.Tie as tie
 
+slice-aggregate-seen-by : tie.Need-slice-aggregate-seen-by
+slice-aggregate-seen-by c = search needs
+
 seen-by-requires : tie.Need-seen-by-requires
-seen-by-requires c κs = (read-wellFormed (c .before .args .description .now) (describes (c .before .args .w)) (c .before .pre), read-inRange (c .before .args .description .now) (describes (c .before .args .w)) (c .before .pre) (λ i. c .shared-slice-known .given i .fits))
+seen-by-requires c κs =
+    let s = c .before .before in
+    let text = s .args .description .now in
+    let d = describes (s .args .w) in
+    (read-wellFormed text d (s .pre), read-inRange text d (s .pre) (λ i. c .before .shared-slice-known .given i .fits))
 
 -- what was seen is the census, and the candidates are few
 counts : (c : tie.After-seen-by) → figuresOf (record {
@@ -22,22 +29,25 @@ counts : (c : tie.After-seen-by) → figuresOf (record {
   breaking17only = c .seen-by .result .breaking17only;
   secure = c .seen-by .result .secure;
   options = c .seen-by .result .rows;
-}) ≡ census (describes (c .before .before .args .w))
+}) ≡ census (describes (c .before .before .before .args .w))
 counts c =
-    census-is (describes (c .before .before .args .w)) (c .seen-by .result)
-    (counted-by (c .before .before .args .description .now) (describes (c .before .before .args .w)) (λ i. c .before .shared-slice-known .given i .fits) (c .before .before .pre) (c .seen-by .result) (c .seen-by .ensures))
+    let s = c .before .before .before in
+    census-is (describes (s .args .w)) (c .seen-by .result)
+    (counted-by (s .args .description .now) (describes (s .args .w)) (λ i. c .before .before .shared-slice-known .given i .fits) (s .pre) (c .seen-by .result) (c .seen-by .ensures .0))
 
 few : (c : tie.After-seen-by) → c .seen-by .result .breaking16 + c .seen-by .result .breaking17only + c .seen-by .result .secure ≤ 65536
-few c = subst (λ (n : ℕ). n ≤ 65536) (sym (ap (λ x. x .candidates) (counts c))) (candidates-few (c .before .before .args .description .now) (describes (c .before .before .args .w)) (c .before .before .pre))
+few c =
+    let s = c .before .before .before in
+    subst (λ (n : ℕ). n ≤ 65536) (sym (ap (λ x. x .candidates) (counts c))) (candidates-few (s .args .description .now) (describes (s .args .w)) (s .pre))
 
-add-t5 : tie.Need-add-t5
-add-t5 c = let h = few (c .before) in omega arith
+add-t8 : tie.Need-add-t8
+add-t8 c = let h = few (c .before .before) in omega arith
 
-add-t6 : tie.Need-add-t6
-add-t6 c = let h = few (c .before .before) in omega arith
+add-t9 : tie.Need-add-t9
+add-t9 c = let h = few (c .before .before .before) in omega arith
 
 returns : tie.Need-returns
-returns c = counts (c .before .before)
+returns c = counts (c .before .before .before)
 
 pub count-all-spec : {M : Type 1} → statement M
-count-all-spec = tie.close (tie.spec seen-by-requires add-t5 add-t6 returns)
+count-all-spec = tie.close (tie.spec slice-aggregate-seen-by seen-by-requires add-t8 add-t9 returns)

@@ -25,26 +25,54 @@ block-count-requires c κs = search needs
 task-of-requires : tie.Need-task-of-requires
 task-of-requires c κs = search needs
 
+slice-aggregate-seen-by : tie.Need-slice-aggregate-seen-by
+slice-aggregate-seen-by c = search needs
+
 seen-by-requires : tie.Need-seen-by-requires
-seen-by-requires c κs = (read-wellFormed (c .before .before .before .args .description .now) (describes (c .before .before .before .args .w)) (c .before .before .before .pre), read-inRange (c .before .before .before .args .description .now) (describes (c .before .before .before .args .w)) (c .before .before .before .pre) (λ i. c .before .before .shared-slice-known .given i .fits))
+seen-by-requires c κs =
+    let s = c .before .before .before .before in
+    let text = s .args .description .now in
+    let d = describes (s .args .w) in
+    (read-wellFormed text d (s .pre), read-inRange text d (s .pre) (λ i. c .before .before .before .shared-slice-known .given i .fits))
 
 without-row-requires : tie.Need-without-row-requires
 without-row-requires c κs = search needs
 
 -- what the walk kept is the row that the draw answers
-kept : (c : tie.After-seen-by) → KeptRow (describes (c .before .before .before .before .args .w)) (draw (describes (c .before .before .before .before .args .w)) (c .before .before .before .before .args .cursor)) (c .seen-by .result)
+kept : (c : tie.After-seen-by)
+    → let s = c .before .before .before .before .before in
+    KeptRow (describes (s .args .w)) (draw (describes (s .args .w)) (s .args .cursor)) (c .seen-by .result)
 kept c =
-    kept-by (c .before .before .before .before .args .description .now) (describes (c .before .before .before .before .args .w)) (λ i. c .before .before .before .shared-slice-known .given i .fits) (c .before .before .before .before .pre) (c .before .before .before .before .args .cursor) (c .before .task-of .result)
-    (subst (λ n. TaskOf (c .before .before .before .before .args .cursor) n (c .before .task-of .result)) (c .before .before .block-count .ensures .0) (c .before .task-of .ensures)) (c .seen-by .result) (c .seen-by .ensures)
+    let s = c .before .before .before .before .before in
+    let task = c .before .before .task-of in
+    kept-by (s .args .description .now) (describes (s .args .w)) (λ i. c .before .before .before .before .shared-slice-known .given i .fits) (s .pre) (s .args .cursor) (task .result)
+    (subst (λ n. TaskOf (s .args .cursor) n (task .result)) (c .before .before .before .block-count .ensures .0) (task .ensures)) (c .seen-by .result) (c .seen-by .ensures .0)
 
 returns : tie.Need-returns
-returns c = let e = none-kept (describes (c .before .before .before .before .before .before .before .args .w)) (draw (describes (c .before .before .before .before .before .before .before .args .w)) (c .before .before .before .before .before .before .before .args .cursor)) (c .before .before .before .seen-by .result) (kept (c .before .before .before)) (c .before .if1 .taken) in (ap drawAnswer (c .without-row .ensures) ∙ ap {B = Result (Option Row)} ok (sym e), ap (λ a. a .row) (c .without-row .ensures) ∙ ap (λ o. rowBeside (ok o)) (sym e))
+returns c =
+    let s = c .before .before .before .before .before .before .before .before .before in
+    let d = describes (s .args .w) in
+    let seen = c .before .before .before .before in
+    let e = none-kept d (draw d (s .args .cursor)) (seen .seen-by .result) (kept seen) (c .before .if1 .taken) in
+    (ap drawAnswer (c .without-row .ensures) ∙ ap {B = Result (Option Row)} ok (sym e), ap (λ a. a .row) (c .without-row .ensures) ∙ ap (λ o. rowBeside (ok o)) (sym e))
 
 unpacked-requires : tie.Need-unpacked-requires
-unpacked-requires c κs = (omega (arith, c .before .before .before .before .block-count .ensures .1), subst (λ n. (c .before .before .seen-by .result) .place < 8 ^ n) (sym (c .before .before .before .before .block-count .ensures .0)) (kept-low (describes (c .before .before .before .before .before .before .args .w)) (draw (describes (c .before .before .before .before .before .before .args .w)) (c .before .before .before .before .before .before .args .cursor)) (c .before .before .seen-by .result) (kept (c .before .before)) (c .if1 .left)))
+unpacked-requires c κs =
+    let s = c .before .before .before .before .before .before .before .before in
+    let d = describes (s .args .w) in
+    let seen = c .before .before .before in
+    let blocks = c .before .before .before .before .before .before .block-count in
+    (omega (arith, blocks .ensures .1), subst (λ n. seen .seen-by .result .place < 8 ^ n) (sym (blocks .ensures .0)) (kept-low d (draw d (s .args .cursor)) (seen .seen-by .result) (kept seen) (c .if1 .left)))
 
 returns-2 : tie.Need-returns-2
-returns-2 c = let e = some-kept (describes (c .before .before .before .before .before .before .before .args .w)) (draw (describes (c .before .before .before .before .before .before .before .args .w)) (c .before .before .before .before .before .before .before .args .cursor)) (c .before .before .before .seen-by .result) (kept (c .before .before .before)) (c .before .if1 .left) (c .unpacked .result) (c .unpacked .ensures ∙ ap (λ n. digits n (c .before .before .before .seen-by .result .place) ++ replicate (16 - n) 0) (c .before .before .before .before .before .block-count .ensures .0)) in (ap {B = Result (Option Row)} ok (sym e), ap (λ o. rowBeside (ok o)) (sym e))
+returns-2 c =
+    let s = c .before .before .before .before .before .before .before .before .before in
+    let d = describes (s .args .w) in
+    let seen = c .before .before .before .before in
+    let blocks = c .before .before .before .before .before .before .before .block-count in
+    let e = some-kept d (draw d (s .args .cursor)) (seen .seen-by .result) (kept seen) (c .before .if1 .left) (c .unpacked .result)
+    (c .unpacked .ensures ∙ ap (λ n. digits n (seen .seen-by .result .place) ++ replicate (16 - n) 0) (blocks .ensures .0)) in
+    (ap {B = Result (Option Row)} ok (sym e), ap (λ o. rowBeside (ok o)) (sym e))
 
 pub row-past-spec : {M : Type 1} → statement M
 row-past-spec =
@@ -52,6 +80,7 @@ row-past-spec =
     (tie.spec
     block-count-requires
     task-of-requires
+    slice-aggregate-seen-by
     seen-by-requires
     without-row-requires
     returns

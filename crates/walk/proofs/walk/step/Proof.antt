@@ -14,26 +14,26 @@ use Rattle.walk.proofs.walk.step.Statement.{statement}
 use Rattle.walk.proofs.walk.step.Tie as tie
 
 abbrev Inv-loop : tie.InvT-loop
-Inv-loop own terms ends starts at weight place c x all sum₀ lo hi e₀ sum e =
+Inv-loop own terms ends starts at weight place c lo hi x all sum₀ e₀ sum e =
     (start (tables own terms ends starts [] []) at ≤ e) × (e ≤ hi) × (hi ≡ start (tables own terms ends starts [] []) (at + 1)) × (hi ≤ 32)
     × (sum ≡ part (tables own terms ends starts [] []) (at + 1) e (digits (at + 1) all))
 
 abbrev μ-loop : tie.MeasureT-loop
-μ-loop own terms ends starts at weight place c x all sum₀ lo hi e₀ sum e = hi - e
+μ-loop own terms ends starts at weight place c lo hi x all sum₀ e₀ sum e = hi - e
 
 abbrev S : tie.Start Inv-loop μ-loop → Tables
 S s = tables (s .args .own .now) (s .args .terms .now) (s .args .ends .now) (s .args .starts .now) [] []
 
 -- the ends of the edge at hand
-ends-here : (c : tie.After-wide3 Inv-loop μ-loop)
-    → let s = c .before .before .before .before .before .before .before .before .before in
+ends-here : (c : tie.After-wide Inv-loop μ-loop)
+    → let s = c .before .before .before .before .before in
     let e = c .before .before .before .loop .e in
-    (start (S s) (s .args .at) ≤ e) × (e < start (S s) (s .args .at + 1)) × (c .wide3 .result ≡ getD (s .args .ends .now) (2 * e + 1) 0) × (c .wide3 .result ≤ s .args .at)
+    (start (S s) (s .args .at) ≤ e) × (e < start (S s) (s .args .at + 1)) × (c .wide .result ≡ getD (s .args .ends .now) (2 * e + 1) 0) × (c .wide .result ≤ s .args .at)
 ends-here c =
-    let s = c .before .before .before .before .before .before .before .before .before in
+    let s = c .before .before .before .before .before in
     let l = c .before .before .before .loop in
     let u : l .e < start (S s) (s .args .at + 1) = omega (arith, l .inv .1, l .inv .2, c .before .before .loop-test .taken) in
-    (l .inv .0, u, c .wide3 .ensures, omega (arith, c .wide3 .ensures, ends-at (S s) (s .args .at + 1) (s .pre .1 .0) (s .args .at) (l .e) (omega arith) (l .inv .0) u .1))
+    (l .inv .0, u, c .wide .ensures, omega (arith, c .wide .ensures, ends-at (S s) (s .args .at + 1) (s .pre .1 .0) (s .args .at) (l .e) (omega arith) (l .inv .0) u .1))
 
 mul-all : tie.Need-mul-all Inv-loop μ-loop
 mul-all c = omega (arith, place-small (c .args .at) (c .args .place) (omega (arith, c .pre .1 .0 .few)) (c .pre .0 .1))
@@ -56,46 +56,32 @@ element-copy-out-sum c = search needs
 add-sum-2 : tie.Need-add-sum-2 Inv-loop μ-loop
 add-sum-2 c =
     let s = c .before in
-    omega (arith, weight-small (S s) (s .args .at + 1) (s .pre .1 .0) (s .args .at) (digits (s .args .at) (s .args .place)) (omega arith), s .pre .1 .0 .ownSmall (s .args .at * 8 + s .args .c), s .pre .1 .1)
+    omega (arith, weight-small (S s) (s .args .at + 1) (s .pre .1 .0) (s .args .at) (digits (s .args .at) (s .args .place)) (omega arith), s .pre .1 .0 .ownSmall (s .args .at * 8 + s .args .c), s .pre .1 .1 .0)
+
+loop-holds : tie.Need-loop-holds Inv-loop μ-loop
+unfolding start
+loop-holds c =
+    let s = c .before in
+    let r = s .pre .1 .0 in
+    let edges = s .pre .1 .1 .1 in (
+      omega (arith, edges .0),
+      omega (arith, edges .0, edges .1, r .rising (s .args .at) (omega arith)),
+      edges .1,
+      omega (arith, edges .1, r .all (s .args .at + 1) (omega arith)),
+      (rw (edges .0, s .pre .1 .1 .0) (part-next (S s) (s .args .at + 1) r (s .args .at) (s .args .c) (s .args .place) (omega arith) (s .pre .0 .0))),
+    )
+
+mul-wide : tie.Need-mul-wide Inv-loop μ-loop
+mul-wide c = search needs
+
+add-wide : tie.Need-add-wide Inv-loop μ-loop
+add-wide c = search needs
 
 element-copy-out-wide : tie.Need-element-copy-out-wide Inv-loop μ-loop
 element-copy-out-wide c = search needs
 
 wide-requires : tie.Need-wide-requires Inv-loop μ-loop
 wide-requires c κs = search needs
-
-add-wide : tie.Need-add-wide Inv-loop μ-loop
-add-wide c = search needs
-
-element-copy-out-wide-2 : tie.Need-element-copy-out-wide-2 Inv-loop μ-loop
-element-copy-out-wide-2 c = search needs
-
-wide-requires-2 : tie.Need-wide-requires-2 Inv-loop μ-loop
-wide-requires-2 c κs = search needs
-
-loop-holds : tie.Need-loop-holds Inv-loop μ-loop
-unfolding start
-loop-holds c =
-    let s = c .before .before .before .before .before in
-    let r = s .pre .1 .0 in (
-      omega (arith, c .before .before .wide .ensures),
-      omega (arith, c .before .before .wide .ensures, c .wide2 .ensures, r .rising (s .args .at) (omega arith)),
-      c .wide2 .ensures,
-      omega (arith, c .wide2 .ensures, r .all (s .args .at + 1) (omega arith)),
-      (rw (c .before .before .wide .ensures, s .pre .1 .1) (part-next (S s) (s .args .at + 1) r (s .args .at) (s .args .c) (s .args .place) (omega arith) (s .pre .0 .0))),
-    )
-
-mul-wide : tie.Need-mul-wide Inv-loop μ-loop
-mul-wide c = search needs
-
-add-wide-2 : tie.Need-add-wide-2 Inv-loop μ-loop
-add-wide-2 c = search needs
-
-element-copy-out-wide-3 : tie.Need-element-copy-out-wide-3 Inv-loop μ-loop
-element-copy-out-wide-3 c = search needs
-
-wide-requires-3 : tie.Need-wide-requires-3 Inv-loop μ-loop
-wide-requires-3 c κs = search needs
 
 sub-y : tie.Need-sub-y Inv-loop μ-loop
 sub-y c = omega (arith, ends-here c .3)
@@ -104,7 +90,7 @@ mul-y : tie.Need-mul-y Inv-loop μ-loop
 mul-y c = search needs
 
 shr-y : tie.Need-shr-y Inv-loop μ-loop
-shr-y c = omega (arith, c .before .before .before .before .before .before .before .before .before .pre .1 .0 .few)
+shr-y c = omega (arith, c .before .before .before .before .before .pre .1 .0 .few)
 
 mul-sum-3 : tie.Need-mul-sum-3 Inv-loop μ-loop
 mul-sum-3 c = search needs
@@ -122,17 +108,17 @@ mul-sum-5 : tie.Need-mul-sum-5 Inv-loop μ-loop
 mul-sum-5 c = search needs
 
 element-copy-out-sum-2 : tie.Need-element-copy-out-sum-2 Inv-loop μ-loop
-element-copy-out-sum-2 c = omega (arith, c .before .before .before .before .before .before .before .before .before .pre .0 .0)
+element-copy-out-sum-2 c = omega (arith, c .before .before .before .before .before .pre .0 .0)
 
 add-sum-5 : tie.Need-add-sum-5 Inv-loop μ-loop
 add-sum-5 c =
-    let s = c .before .before .before .before .before .before .before .before .before .before in
+    let s = c .before .before .before .before .before .before in
     let l = c .before .before .before .before .loop in
     omega (
       arith,
       l .inv .4,
       part-small (S s) (s .args .at + 1) (s .pre .1 .0) (s .args .at + 1) (l .e) (digits (s .args .at + 1) (s .args .place * 8 + s .args .c)),
-      s .pre .1 .0 .termsSmall (l .e * 64 + s .args .c * 8 + (s .args .place * 8 + s .args .c) / 2 ^ (3 * (s .args .at - c .before .wide3 .result)) % 8),
+      s .pre .1 .0 .termsSmall (l .e * 64 + s .args .c * 8 + (s .args .place * 8 + s .args .c) / 2 ^ (3 * (s .args .at - c .before .wide .result)) % 8),
     )
 
 add-e : tie.Need-add-e Inv-loop μ-loop
@@ -143,17 +129,17 @@ loop-less c = search needs
 
 loop-again : tie.Need-loop-again Inv-loop μ-loop
 loop-again c =
-    let s = c .before .before .before .before .before .before .before .before .before .before in
+    let s = c .before .before .before .before .before .before in
     let l = c .before .before .before .before .loop in
     let h = ends-here (c .before) in
     let q = digits (s .args .at + 1) (s .args .place * 8 + s .args .c) in
-    let term : getD (s .args .terms .now) (l .e * 64 + s .args .c * 8 + (s .args .place * 8 + s .args .c) / 2 ^ (3 * (s .args .at - c .before .wide3 .result)) % 8) 0 ≡ edgeTerm (S s) q (l .e) =
+    let term : getD (s .args .terms .now) (l .e * 64 + s .args .c * 8 + (s .args .place * 8 + s .args .c) / 2 ^ (3 * (s .args .at - c .before .wide .result)) % 8) 0 ≡ edgeTerm (S s) q (l .e) =
     rw (h .2) (edge-next (S s) (s .args .at + 1) (s .pre .1 .0) (s .args .at) (l .e) (s .args .c) (s .args .place) (omega arith) (s .pre .0 .0) (h .0) (h .1)) in
     (omega arith, omega arith, l .inv .2, l .inv .3, rw (add-one (l .e)) (omega (arith, l .inv .4, term, part-edge (S s) (s .args .at + 1) (l .e) q)))
 
 returns : tie.Need-returns Inv-loop μ-loop
 returns c =
-    let s = c .before .before .before .before .before .before .before in
+    let s = c .before .before .before in
     let l = c .before .loop in
     let e : l .e ≡ start (S s) (s .args .at + 1) = omega (arith, l .inv .1, l .inv .2, c .loop-test .left) in
     rw e at (l .inv .4) ∙ sym (part-weight (S s) (s .args .at + 1) (digits (s .args .at + 1) (s .args .place * 8 + s .args .c)))
@@ -171,16 +157,11 @@ step-spec =
     mul-sum-2
     element-copy-out-sum
     add-sum-2
-    element-copy-out-wide
-    wide-requires
-    add-wide
-    element-copy-out-wide-2
-    wide-requires-2
     loop-holds
     mul-wide
-    add-wide-2
-    element-copy-out-wide-3
-    wide-requires-3
+    add-wide
+    element-copy-out-wide
+    wide-requires
     sub-y
     mul-y
     shr-y
