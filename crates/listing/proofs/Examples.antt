@@ -1,11 +1,13 @@
 -- The worked examples, by computation.
 use mathlib.Core.Path.{refl}
 use native.Mathlib.Omega.{arith}
+use Rattle.walk.specs.Packing.{digits as clouds}
 use Rattle.listing.specs.Lines.{digits, decimal}
+use Rattle.listing.specs.Batches.{wordsLine}
 use Rattle.listing.specs.Statements.{Examples}
 
 pub examples : Examples
-unfolding digits decimal
+unfolding digits decimal clouds wordsLine
 examples = record {
   zero = refl;
   nine = refl;
@@ -13,6 +15,7 @@ examples = record {
   largest = refl;
   row = refl;
   nextRow = refl;
+  rows = refl;
   options = refl;
   refusal = refl;
   bytes = (refl, refl);

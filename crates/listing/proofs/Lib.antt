@@ -1,5 +1,7 @@
+pub mod Batches
 pub mod Decimals
 pub mod Examples
 pub mod Making
 pub mod Placing
 pub mod Sizes
+pub mod Writing

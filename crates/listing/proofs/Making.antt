@@ -4,17 +4,16 @@ use native.Mathlib.Omega.{arith}
 use mathlib.Core.Path.{_≡_, sym, ap, _∙_}
 use mathlib.Core.List.{List, [], _∷_, _++_, map, append-assoc}
 use lib.ListN.{length, getD, take, drop, set, length-append, length-map, length-take, List·getD-map}
-use lib.Seq.{set-split, drop-at, drop-cons, length-take-le, append-snoc, getD-take}
+use lib.Seq.{drop-cons, append-snoc, getD-take}
 use Rattle.listing.specs.Lines.{ascii, digit, decimal, rowLine, optionsLine, refusalLine}
 use Rattle.listing.proofs.Decimals.{small, large}
+use Rattle.listing.proofs.Writing.{stored-at}
 
 -- a byte stored just before the text
 pub stored : (l : List ℕ) (start b : ℕ) → 0 < start → start ≤ length l → drop (start - 1) (set l (start - 1) b) ≡ b ∷ drop start l
 stored l start b p h =
     let e : suc (start - 1) ≡ start = omega arith in
-    ap (drop (start - 1)) (set-split l (start - 1) b (omega arith)) ∙
-    drop-at (take (start - 1) l) _ (start - 1) (length-take-le (start - 1) l (omega arith)) ∙
-    ap (λ (n : ℕ). b ∷ drop n l) e
+    stored-at l (start - 1) b (omega arith) ∙ ap (λ (n : ℕ). b ∷ drop n l) e
 
 -- one element more of s, of which the elements from k on are there
 pub one-before : (s : List ℕ) (k z : ℕ) (rest t u : List ℕ) → 0 < k → k ≤ length s
@@ -43,10 +42,6 @@ pub last-digit : (n : ℕ) (t u : List ℕ) → n < 10 → u ≡ digit n ∷ t �
 last-digit n t u h e = ap (λ l. l ++ t) (small n h) ∙ sym e
 
 -- the lines, from their parts
-
-pub row-made : (cost : ℕ) (p : List ℕ) (blocks : ℕ) (end clouds space line : List ℕ) → end ≡ ascii "\n" → clouds ≡ map digit (take blocks p) ++ end
-    → space ≡ 32 ∷ clouds → line ≡ decimal cost ++ space → line ≡ rowLine cost p blocks
-row-made cost p blocks end clouds space line e₁ e₂ e₃ e₄ = rw (e₄, e₃, e₂, e₁) (simp append-assoc)
 
 pub options-made : (count : ℕ) (end number line : List ℕ) → end ≡ ascii "\n" → number ≡ decimal count ++ end
     → line ≡ ascii "options " ++ number → line ≡ optionsLine count

@@ -4,10 +4,11 @@ use native.Mathlib.Omega.{arith}
 use native.Mathlib.Numerals.{add-one}
 use mathlib.Core.Path.{_≡_, refl, sym, ap, _∙_}
 use mathlib.Core.List.{List, _++_}
-use lib.ListN.{length, getD, take, drop, set, length-append}
-use lib.Seq.{paste, paste-suc, take-length, take-at, length-take-le, getD-drop}
+use lib.ListN.{length, getD, take, drop, set}
+use lib.Seq.{paste, paste-suc, take-length, getD-drop}
 use borrow.Author.Tests.{le-leb, lt-leb}
 use Rattle.listing.specs.Lines.{placed, placedEnd}
+use Rattle.listing.proofs.Writing.{written-front}
 
 -- one byte more of the text that stands in an array from `start` on
 pub copied : (bytes buffer b : List ℕ) (start at k : ℕ) → at + k < length buffer → k < length (drop start bytes)
@@ -31,7 +32,4 @@ module _ (line buffer : List ℕ) (at : ℕ) where
 
   -- for one line behind the other: what stands below the new offset is what stood below the old one, and the line
   pub so-far : at + length line ≤ length buffer → take (placedEnd line buffer at) (placed line buffer at) ≡ take at buffer ++ line
-  so-far h =
-      let before : length (take at buffer) ≡ at = length-take-le at buffer (omega arith) in
-      let size : length (take at buffer ++ line) ≡ at + length line = length-append (take at buffer) line ∙ ap (λ (n : ℕ). n + length line) before in
-      simp (le-leb _ _ h) (take-at (take at buffer ++ line) (drop (at + length line) buffer) (at + length line) size)
+  so-far h = simp (le-leb _ _ h) (written-front line buffer at h)

@@ -1,3 +1,4 @@
 pub mod Lines
+pub mod Batches
 pub mod Statements
 pub mod Making

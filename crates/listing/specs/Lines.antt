@@ -41,10 +41,14 @@ refusalLine number place = ascii "refused " ++ decimal number ++ ascii " " ++ de
 abbrev pub fits : List ℕ → List ℕ → ℕ → Bool
 fits line buffer at = leb (at + length line) (length buffer)
 
+-- the buffer after a text that fits was put into it at `at`
+abbrev pub written : List ℕ → List ℕ → ℕ → List ℕ
+written text buffer at = take at buffer ++ text ++ drop (at + length text) buffer
+
 -- The buffer after a line was put into it at `at`, and the offset behind the line. A line that does not fit changes nothing, and
 -- the offset stays.
 abbrev pub placed : List ℕ → List ℕ → ℕ → List ℕ
-placed line buffer at = cond (fits line buffer at) (take at buffer ++ line ++ drop (at + length line) buffer) buffer
+placed line buffer at = cond (fits line buffer at) (written line buffer at) buffer
 
 abbrev pub placedEnd : List ℕ → List ℕ → ℕ → ℕ
 placedEnd line buffer at = cond (fits line buffer at) (at + length line) at

@@ -1,10 +1,11 @@
--- What is proved of the lines: a decimal is read back and has no leading zero, no line is empty or longer than it is said here, and
--- worked examples.
+-- What is proved of the lines: a decimal is read back and has no leading zero, no line is empty or longer than it is said here, batches
+-- make up the whole list, and worked examples.
 use Prim.Native.Nat.{ℕ, _+_, _-_, _*_, _^_, _<_, _≤_}
 use mathlib.Core.Path.{_≡_}
-use mathlib.Core.List.{List, [], _∷_}
+use mathlib.Core.List.{List, [], _∷_, _++_}
 use lib.ListN.{length, getD}
 use Rattle.listing.specs.Lines.{ascii, digit, decimal, rowLine, optionsLine, refusalLine}
+use Rattle.listing.specs.Batches.{wordsLine, linesOf, rowWords}
 
 -- the number that digits stand for, behind digits that stand for `front`
 abbrev pub valueAfter : ℕ → List ℕ → ℕ
@@ -30,6 +31,12 @@ pub record Sizes : Type 0 where
   pub options : (count : ℕ) → count < 2 ^ 64 → Sized (optionsLine count) 29
   pub refusal : (number place : ℕ) → number < 2 ^ 8 → place < 2 ^ 64 → Sized (refusalLine number place) 33
 
+pub record Batches : Type 0 where
+  pub line : (blocks cost place : ℕ) → blocks ≤ 16 → cost < 2 ^ 64 → Sized (wordsLine blocks cost place) 38
+  -- the lines of m rows, and behind them those of the n rows that come next, are the lines of all of them
+  pub behind : (blocks : ℕ) (words : List ℕ) (from m n : ℕ)
+      → linesOf blocks (rowWords words from (m + n)) ≡ linesOf blocks (rowWords words from m) ++ linesOf blocks (rowWords words (from + m) n)
+
 pub record Examples : Type 0 where
   pub zero : decimal 0 ≡ ascii "0"
   pub nine : decimal 9 ≡ ascii "9"
@@ -37,6 +44,8 @@ pub record Examples : Type 0 where
   pub largest : decimal (2 ^ 64 - 1) ≡ ascii "18446744073709551615"
   pub row : rowLine 2820 (1 ∷ 1 ∷ 1 ∷ 1 ∷ 1 ∷ 0 ∷ 0 ∷ 0 ∷ 0 ∷ 0 ∷ 0 ∷ 0 ∷ 0 ∷ 0 ∷ 0 ∷ 0 ∷ []) 5 ≡ ascii "2820 11111\n"
   pub nextRow : rowLine 2840 (1 ∷ 1 ∷ 1 ∷ 1 ∷ 0 ∷ 0 ∷ 0 ∷ 0 ∷ 0 ∷ 0 ∷ 0 ∷ 0 ∷ 0 ∷ 0 ∷ 0 ∷ 0 ∷ []) 5 ≡ ascii "2840 11110\n"
+  -- the same two rows as words; a word alone behind them is no row
+  pub rows : linesOf 5 (2820 ∷ 4681 ∷ 2840 ∷ 4680 ∷ 2860 ∷ []) ≡ ascii "2820 11111\n2840 11110\n"
   pub options : optionsLine 6 ≡ ascii "options 6\n"
   pub refusal : refusalLine 14 0 ≡ ascii "refused 14 0\n"
   -- the bytes of two texts, written out

@@ -1,10 +1,11 @@
 // The lines that `listoptions` prints, put into a buffer that the caller lends.
 ghost use mathlib.Core.Path.{_≡_};
-ghost use mathlib.Core.List.{[], _∷_, _++_, map};
-ghost use Prim.Native.Nat.{_+_, _≤_, _<_, min};
-ghost use lib.ListN.{take};
-ghost use Rattle.listing.specs.Lines.{digit, decimal, rowLine, optionsLine, refusalLine, placed, placedEnd};
+ghost use mathlib.Core.List.{[], _∷_, _++_};
+ghost use Prim.Native.Nat.{_+_, _≤_, _<_};
+ghost use Rattle.listing.specs.Lines.{digit, decimal, optionsLine, refusalLine, placed, placedEnd};
 ghost use Rattle.listing.specs.Making.{text};
+
+pub mod rows;
 
 // A line in the making. Division gives a number's last digit first, so a line is made from its end: `bytes` from `start` on.
 struct Line {
@@ -54,27 +55,6 @@ fn decimal_before(n: u64, line: Line) -> Line
     byte_before(last_digit(left), longer)
 }
 
-// How many of the sixteen positions count.
-fn positions(blocks: usize) -> usize
-    ensures { λ r. ⌜ r ≡ min blocks 16 ⌝ }
-{
-    if blocks < 16 { blocks } else { 16 }
-}
-
-fn clouds_before(placement: [u8; 16], blocks: usize, line: Line) -> Line
-    requires { ⌜ (16 ≤ line .start) × (line .start ≤ 64) ⌝ }
-    ensures { λ r. ⌜ text r ≡ map digit (take blocks placement) ++ text line ⌝ }
-    ensures { λ r. ⌜ (line .start ≤ r .start + 16) × (r .start ≤ line .start) ⌝ }
-{
-    let mut longer = line;
-    let mut block = positions(blocks);
-    while 0 < block {
-        block -= 1;
-        longer = byte_before(48 + placement[block] % 10, longer);
-    }
-    longer
-}
-
 fn word_before(word: [u8; 8], line: Line) -> Line
     requires { ⌜ (8 ≤ line .start) × (line .start ≤ 64) ⌝ }
     ensures { λ r. ⌜ text r ≡ word ++ text line ⌝ }
@@ -113,16 +93,6 @@ fn put(line: Line, buffer: &mut [u8], at: usize) -> usize
 
 // Each of these puts one line into the buffer from offset `at` on, and answers the offset behind it. Where the line does not fit,
 // nothing is written and the answer is `at`; no line is empty, so the answer tells the two apart. Each takes any arguments.
-
-// One digit for each block: above 16 there are no more.
-pub fn put_row(cost: u64, placement: [u8; 16], blocks: usize, buffer: &mut [u8], at: usize) -> usize
-    ensures { λ r. ⌜ r ≡ placedEnd (rowLine cost placement blocks) (now (buffer .entry)) at ⌝ }
-    ensures { λ r. ⌜ now (buffer .exit) ≡ placed (rowLine cost placement blocks) (now (buffer .entry)) at ⌝ }
-{
-    let clouds = clouds_before(placement, blocks, newline());
-    let line = decimal_before(cost, byte_before(b' ', clouds));
-    put(line, buffer, at)
-}
 
 pub fn put_options(count: u64, buffer: &mut [u8], at: usize) -> usize
     ensures { λ r. ⌜ r ≡ placedEnd (optionsLine count) (now (buffer .entry)) at ⌝ }
