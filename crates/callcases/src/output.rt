@@ -13,7 +13,11 @@ use libc::STDOUT_FILENO;
 pub fn flush(out: &[u8], at: usize) -> bool
     requires { ⌜ at ≤ length (now out) ⌝ }
 {
-    io::write_all(STDOUT_FILENO, front(out, at))
+    if io::write_all(STDOUT_FILENO, front(out, at)) {
+        return true;
+    }
+    os::fail(b"callcases: standard output");
+    false
 }
 
 pub fn put(out: &mut Buffer, at: usize, text: &[u8]) -> usize

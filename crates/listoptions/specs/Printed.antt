@@ -1,19 +1,19 @@
--- What `listoptions` prints for a draw's answer.
+-- What `listoptions` prints for what the list comes to: the rows, and a last line.
 use Prim.Native.Nat.{ℕ}
-use mathlib.Core.Bool.{Bool, true, false}
 use mathlib.Core.List.{List}
-use mathlib.Core.Option.{Option, none, some}
-use Rattle.listing.specs.Lines.{rowLine, optionsLine, refusalLine}
-use Rattle.lister.specs.declared.Row.{Row}
+use Rattle.listing.specs.Lines.{optionsLine, refusalLine}
 use Rattle.sequences.specs.Results.{Result, ok, refused}
 
--- A row's line; where the draw says finished, the number of rows before it; where the description is refused, why.
-abbrev pub answerLine : Result (Option Row) → (blocks count : ℕ) → List ℕ
-answerLine (ok (some row)) blocks count = rowLine (row .cost) (row .placement) blocks
-answerLine (ok none) blocks count = optionsLine count
-answerLine (refused number place) blocks count = refusalLine number place
+-- how many rows are printed, and how many digits each has
+abbrev pub rowsOf : Result (ℕ × ℕ) → ℕ
+rowsOf (ok extent) = extent .0
+rowsOf (refused number place) = 0
 
-abbrev pub isRow : Result (Option Row) → Bool
-isRow (ok (some row)) = true
-isRow (ok none) = false
-isRow (refused number place) = false
+abbrev pub blocksOf : Result (ℕ × ℕ) → ℕ
+blocksOf (ok extent) = extent .1
+blocksOf (refused number place) = 0
+
+-- the number of rows behind them, or why there are none
+abbrev pub lastLine : Result (ℕ × ℕ) → List ℕ
+lastLine (ok extent) = optionsLine (extent .0)
+lastLine (refused number place) = refusalLine number place

@@ -1,0 +1,141 @@
+-- The rows of a description as words: what one walk keeps of it are its rows in the walk's order, and sorted they are the list.
+use Prim.Native.Nat.{ℕ, _+_, _*_, _-_, _≤_}
+use native.Mathlib.Nat.{zero-add}
+use native.Mathlib.Omega.{arith}
+use mathlib.Core.Path.{_≡_, refl, sym, ap, ap₂, subst, subst₂, _∙_}
+use mathlib.Core.Bool.{Bool, true, false, _&&_, _||_}
+use mathlib.Core.List.{List, [], _∷_, _++_, map, foldl, List·Memᴰ, Memᴰ·of-map}
+use lib.Dec.{ltb, eqb}
+use lib.ListN.{length, take, drop, replicate, length-map}
+use lib.Seq.{take-at, drop-at}
+use Rattle.description.specs.Bytes.{Bytes}
+use Rattle.description.specs.Format.{Description}
+use Rattle.rules.specs.Soundness.{read, candidates, count}
+use Rattle.rules.specs.Placements.{secure}
+use Rattle.rules.specs.Cost.{cost}
+use Rattle.rules.proofs.Candidates.{count-is-length}
+use Rattle.walk.specs.Packing.{pack}
+use Rattle.walk.specs.Tables.{weight}
+use Rattle.walk.specs.Tables.{stands as standsBy}
+use Rattle.walk.specs.Visiting.{isSecure}
+use Rattle.walk.specs.Walking.{keepAll}
+use Rattle.walk.specs.declared.visit.Task.{Task}
+use Rattle.lister.specs.declared.Row.{Row}
+use Rattle.lister.specs.Building.{tablesOf, padded}
+use Rattle.lister.specs.Joining.{Joined, met}
+use Rattle.lister.specs.Rows.{securePlacements, rowOf, earlier, stands, rows}
+use Rattle.lister.specs.Seeing.{nothingSeen}
+use Rattle.lister.proofs.Counting.{rows-length}
+use Rattle.lister.proofs.Joins.{joined, ordered}
+use Rattle.lister.proofs.Walked.{is-row}
+use Rattle.sorting.specs.Rows.{flat, lower, pairs, sortedFront}
+use Rattle.sorting.proofs.Rows.{length-flat, pairs-flat}
+use Rattle.sequences.specs.Lists.{keep, before, sort}
+use Rattle.sequences.specs.Results.{ok}
+use Rattle.sequences.proofs.Agreeing.{keep-agree, keep-map, map-agree}
+use Rattle.sequences.proofs.Members.{keep-members}
+use Rattle.sequences.proofs.Parts.{keep-both, two-parts}
+use Rattle.sequences.proofs.Sorting.{sort-map}
+use Rattle.sequences.proofs.Tests.{both-pass}
+use Rattle.enumeration.specs.Unsorted.{unsorted}
+use Rattle.enumeration.specs.WholeList.{rowWords, listed, needed}
+use Rattle.enumeration.proofs.Keeping.{kept-words}
+
+-- two functions one after the other
+map-map : {A B C : Type 0} (f : A → B) (g : B → C) (l : List A) → map g (map f l) ≡ map (λ a. g (f a)) l
+map-map f g [] = refl
+map-map f g (a ∷ l) = ap (λ r. g (f a) ∷ r) (map-map f g l)
+
+module _ (s : List ℕ) (d : Description) (bytes : Bytes s) (accepted : read s ≡ ok d) where
+  abbrev n : ℕ
+  n = length (d .blocks)
+
+  abbrev W : List ℕ → ℕ
+  W q = weight (tablesOf d) n q
+
+  abbrev met' : List (List ℕ)
+  met' = met d (tablesOf d)
+
+  j : Joined d (tablesOf d)
+  j = joined s d bytes accepted
+
+  -- the placements of the rows, and the same as the walk meets them
+  abbrev standing : List (List ℕ)
+  standing = keep (stands d) (securePlacements d)
+
+  abbrev isRow : List ℕ → Bool
+  isRow q = isSecure (W q) && standsBy (tablesOf d) n q
+
+  standing-met : map (padded d) (keep isRow met') ≡ standing
+  unfolding securePlacements
+  standing-met =
+      ap (map (padded d)) (keep-agree isRow (λ q. secure d (padded d q) && stands d (padded d q)) met' (is-row d (tablesOf d) j))
+      ∙ sym (keep-map (padded d) (λ p. secure d p && stands d p) met') ∙ ap (keep (λ p. secure d p && stands d p)) (j .candidatesAre)
+      ∙ sym (keep-both (secure d) (stands d) (candidates d))
+
+  -- the blocks of a placement that was met are that placement
+  blocks-of : (q : List ℕ) → List·Memᴰ q met' → take n (padded d q) ≡ q
+  blocks-of q m = take-at q (replicate (16 - n) 0) n (j .sized q m)
+
+  words-met : (q : List ℕ) → List·Memᴰ q (keep isRow met') → _≡_ {A = ℕ × ℕ} (W q, pack q) (rowWords d (rowOf d (padded d q)))
+  words-met q m =
+      let (k, row) = keep-members isRow met' q .0 m in
+      let light = sym (j .secureIs q k) ∙ both-pass (isSecure (W q)) (standsBy (tablesOf d) n q) .0 row .0 in
+      let same = sym (blocks-of q k) in
+      λ i. (j .costIs q k light i, pack (same i))
+
+  kept-unsorted : flat (map (λ q. (W q, pack q)) (keep isRow met')) ≡ unsorted d
+  unfolding unsorted
+  kept-unsorted = ap flat (map-agree _ _ (keep isRow met') words-met ∙ sym (map-map (padded d) (λ p. rowWords d (rowOf d p)) (keep isRow met')) ∙ ap (map (λ p. rowWords d (rowOf d p))) standing-met)
+
+  rows-number : length (keep isRow met') ≡ length (rows d)
+  rows-number = sym (length-map (keep isRow met') (padded d)) ∙ ap length standing-met ∙ sym (rows-length d)
+
+  -- no more rows than candidates
+  pub rows-few : length (rows d) ≤ count d
+  rows-few =
+      omega (arith, rows-number, two-parts isRow met', length-map met' (padded d), ap length (j .candidatesAre), count-is-length d)
+
+  -- A WALK THAT COUNTS KEEPS THE ROWS, in the walk's order, where there is room
+  pub walk-keeps : (words : List ℕ) → needed d ≤ length words
+      → keepAll (tablesOf d) (length (d .clouds)) n (record { counting = true; cost = 0; place = 0 }) nothingSeen words ≡ unsorted d ++ drop (needed d) words
+  unfolding keepAll
+  walk-keeps words h =
+      kept-words W pack (standsBy (tablesOf d) n) (record { counting = true; cost = 0; place = 0 }) refl met' nothingSeen words (rw (zero-add, rows-number) h)
+      ∙ ap₂ (λ a b. a ++ drop (b * 2) words) kept-unsorted (zero-add (length (keep isRow met')) ∙ rows-number)
+
+  -- a row is that of a placement that was met
+  met-of : (x : Row) → List·Memᴰ x (map (rowOf d) standing) → (q : List ℕ) × List·Memᴰ q met' × (rowOf d (padded d q) ≡ x)
+  met-of x a =
+      let (p, m, e) = Memᴰ·of-map (rowOf d) standing a in
+      let (q, k, f) = Memᴰ·of-map (padded d) (keep isRow met') (subst (List·Memᴰ p) (sym standing-met) m) in
+      (q, keep-members isRow met' q .0 k .0, ap (rowOf d) f ∙ e)
+
+  -- words order rows as the rows' order does
+  ordered-rows : (x y : Row) → List·Memᴰ x (map (rowOf d) standing) → List·Memᴰ y (map (rowOf d) standing) → lower (rowWords d x) (rowWords d y) ≡ earlier x y
+  unfolding lower
+  ordered-rows x y a b =
+      let (q, m, e) = met-of x a in
+      let (u, k, f) = met-of y b in
+      let same : ltb (pack (take n (padded d q))) (pack (take n (padded d u))) ≡ before (padded d q) (padded d u) =
+      ap₂ (λ v w. ltb (pack v) (pack w)) (blocks-of q m) (blocks-of u k) ∙ sym (ordered d j q u m k) in
+      subst₂ (λ v w. lower (rowWords d v) (rowWords d w) ≡ earlier v w) e f
+      (ap (λ z. ltb (cost d (padded d q)) (cost d (padded d u)) || (eqb (cost d (padded d q)) (cost d (padded d u)) && z)) same)
+
+  -- SORTED, THEY ARE THE LIST
+  pub sorted-listed : flat (sort lower (pairs (unsorted d))) ≡ listed d
+  unfolding unsorted listed rows
+  sorted-listed =
+      ap (λ l. flat (sort lower l)) (pairs-flat (map (λ p. rowWords d (rowOf d p)) standing) ∙ sym (map-map (rowOf d) (rowWords d) standing))
+      ∙ ap flat (sort-map (rowWords d) earlier lower (map (rowOf d) standing) ordered-rows)
+
+  pub unsorted-length : length (unsorted d) ≡ needed d
+  unfolding unsorted
+  unsorted-length = length-flat (map (λ p. rowWords d (rowOf d p)) standing) ∙ ap (λ k. k * 2) (length-map standing (λ p. rowWords d (rowOf d p)) ∙ sym (rows-length d))
+
+  -- the sort makes the one of the other, and leaves what is beyond
+  pub sorted-front : (ws : List ℕ) → sortedFront (length (rows d)) (unsorted d ++ ws) ≡ listed d ++ ws
+  unfolding sortedFront
+  sorted-front ws =
+      ap₂ (λ a b. flat (sort lower (pairs a)) ++ b) (take-at (unsorted d) ws (needed d) unsorted-length) (drop-at (unsorted d) ws (needed d) unsorted-length)
+      ∙ ap (λ l. l ++ ws) sorted-listed

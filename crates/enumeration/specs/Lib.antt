@@ -1,0 +1,2 @@
+pub mod Unsorted
+pub mod WholeList
