@@ -1,0 +1,220 @@
+// The six calls for C, declared in `include/panel.h`. Each answers a status, 0 or a refusal's number and place in one word, and puts the
+// values of its answer into lent arrays, which a refusal leaves as they were.
+ghost use mathlib.Core.Path.{_≡_};
+ghost use Prim.Native.Nat.{_-_, _^_, min};
+ghost use lib.ListN.{length};
+ghost use Rattle.rules.specs.Answers.{readAnswer, judgeAnswer, transfersAnswer};
+ghost use Rattle.rules.specs.Calls.{readCall, judgeCall, transfersCall, bufferAfter};
+ghost use Rattle.lister.specs.Answers.{censusAnswer, drawAnswer};
+ghost use Rattle.lister.specs.Calls.{censusCall, drawCall};
+ghost use Rattle.enumeration.specs.WholeList.{listAnswer, listCall, rowsAfter, scratchAfter};
+ghost use Rattle.panel.specs.Statuses.{refusalStatus, status, valuesAfter};
+ghost use Rattle.panel.specs.Values.{counts as countValues, transferCount, figures as figureValues, rowOrNone, rowBytes, extent as extentValues, one};
+use description::workflow::Refusal;
+use enumeration::Listed;
+use lister::Answer;
+use lister::Counted;
+use lister::Cursor;
+use lister::Drawn;
+use rules::answers::Acceptance;
+use rules::answers::Transferred;
+use rules::answers::Verdict;
+
+// A place has 56 bits of a status: one that does not fit is the highest that does.
+fn kept_place(place: usize) -> u64
+    ensures { λ r. ⌜ r ≡ min place (2 ^ 56 - 1) ⌝ }
+{
+    if place < 72057594037927935 {
+        place as u64
+    } else {
+        72057594037927935
+    }
+}
+
+fn refusal_status(refusal: Refusal) -> u64
+    ensures { λ r. ⌜ r ≡ refusalStatus (refusal .number) (refusal .place) ⌝ }
+{
+    refusal.number as u64 + 256 * kept_place(refusal.place)
+}
+
+fn put_counts(answer: Acceptance, counts: &mut [u64; 3]) -> u64
+    ensures { λ r. ⌜ r ≡ status (readAnswer answer) ⌝ }
+    ensures { λ _. ⌜ now (counts .exit) ≡ valuesAfter countValues (readAnswer answer) (now (counts .entry)) ⌝ }
+{
+    match answer {
+        Acceptance::Accepted {
+            clouds,
+            blocks,
+            edges,
+        } => {
+            *counts = [clouds as u64, blocks as u64, edges as u64];
+            0
+        }
+        Acceptance::Refused(r) => refusal_status(r),
+    }
+}
+
+fn verdict_status(verdict: Verdict) -> u64
+    ensures { λ r. ⌜ r ≡ status (judgeAnswer verdict) ⌝ }
+{
+    match verdict {
+        Verdict::Secure => 0,
+        Verdict::Refused(r) => refusal_status(r),
+    }
+}
+
+fn put_count(answer: Transferred, count: &mut [u64; 1]) -> u64
+    ensures { λ r. ⌜ r ≡ status (transfersAnswer answer) ⌝ }
+    ensures { λ _. ⌜ now (count .exit) ≡ valuesAfter one (transfersAnswer answer) (now (count .entry)) ⌝ }
+{
+    match answer {
+        Transferred::Count(n) => {
+            *count = [n as u64];
+            0
+        }
+        Transferred::Refused(r) => refusal_status(r),
+    }
+}
+
+fn put_figures(answer: Counted, figures: &mut [u64; 5]) -> u64
+    ensures { λ r. ⌜ r ≡ status (censusAnswer answer) ⌝ }
+    ensures { λ _. ⌜ now (figures .exit) ≡ valuesAfter figureValues (censusAnswer answer) (now (figures .entry)) ⌝ }
+{
+    match answer {
+        Counted::Counts(c) => {
+            *figures = [
+                c.candidates,
+                c.breaking16,
+                c.breaking17only,
+                c.secure,
+                c.options,
+            ];
+            0
+        }
+        Counted::Refused(r) => refusal_status(r),
+    }
+}
+
+fn put_row(drawn: Drawn, answer: &mut [u64; 2], row: &mut [u8; 16]) -> u64
+    ensures { λ r. ⌜ r ≡ status (drawAnswer drawn) ⌝ }
+    ensures { λ _. ⌜ now (answer .exit) ≡ valuesAfter rowOrNone (drawAnswer drawn) (now (answer .entry)) ⌝ }
+    ensures { λ _. ⌜ now (row .exit) ≡ valuesAfter rowBytes (drawAnswer drawn) (now (row .entry)) ⌝ }
+{
+    let told = drawn.answer;
+    let found = drawn.row;
+    let placement = found.placement;
+    match told {
+        Answer::Found => {
+            *answer = [1, found.cost];
+            *row = placement;
+            0
+        }
+        Answer::Finished => {
+            *answer = [0, 0];
+            *row = [0u8; 16];
+            0
+        }
+        Answer::Refused(r) => refusal_status(r),
+    }
+}
+
+fn put_extent(listed: Listed, extent: &mut [u64; 2]) -> u64
+    ensures { λ r. ⌜ r ≡ status (listAnswer listed) ⌝ }
+    ensures { λ _. ⌜ now (extent .exit) ≡ valuesAfter extentValues (listAnswer listed) (now (extent .entry)) ⌝ }
+{
+    match listed {
+        Listed::Rows(e) => {
+            *extent = [e.rows as u64, e.blocks as u64];
+            0
+        }
+        Listed::Refused(r) => refusal_status(r),
+    }
+}
+
+// Read: counts are of clouds, blocks and edges.
+#[no_mangle]
+pub extern "C" fn panel_read(description: &[u8], counts: &mut [u64; 3]) -> u64
+    ensures { λ r. ⌜ r ≡ status (readCall (now (description .entry))) ⌝ }
+    ensures { λ _. ⌜ now (counts .exit) ≡ valuesAfter countValues (readCall (now (description .entry))) (now (counts .entry)) ⌝ }
+{
+    let answer = rules::read(description);
+    put_counts(answer, counts)
+}
+
+// Judge: secure where the status is 0.
+#[no_mangle]
+pub extern "C" fn panel_judge(description: &[u8], placement: &[u8; 16]) -> u64
+    ensures { λ r. ⌜ r ≡ status (judgeCall (now (description .entry)) (now (placement .entry))) ⌝ }
+{
+    let bytes = *placement;
+    let verdict = rules::judge(description, bytes);
+    verdict_status(verdict)
+}
+
+// Transfers: their bytes at the front of the buffer, and how many there are.
+#[no_mangle]
+pub extern "C" fn panel_transfers(
+    description: &[u8],
+    placement: &[u8; 16],
+    buffer: &mut [u8],
+    count: &mut [u64; 1],
+) -> u64
+    ensures { λ r. ⌜ r ≡ status (transfersCall (now (description .entry)) (now (placement .entry)) (length (now (buffer .entry)))) ⌝ }
+    ensures { λ _. ⌜ now (buffer .exit) ≡ bufferAfter (transfersCall (now (description .entry)) (now (placement .entry)) (length (now (buffer .entry)))) (now (buffer .entry)) ⌝ }
+    ensures { λ _. ⌜ now (count .exit) ≡ valuesAfter transferCount (transfersCall (now (description .entry)) (now (placement .entry)) (length (now (buffer .entry)))) (now (count .entry)) ⌝ }
+{
+    let bytes = *placement;
+    let answer = rules::transfers(description, bytes, buffer);
+    put_count(answer, count)
+}
+
+// Census: the five figures.
+#[no_mangle]
+pub extern "C" fn panel_census(description: &[u8], figures: &mut [u64; 5]) -> u64
+    ensures { λ r. ⌜ r ≡ status (censusCall (now (description .entry))) ⌝ }
+    ensures { λ _. ⌜ now (figures .exit) ≡ valuesAfter figureValues (censusCall (now (description .entry))) (now (figures .entry)) ⌝ }
+{
+    let answer = lister::census(description);
+    put_figures(answer, figures)
+}
+
+// Draw: whether there is a row past the cursor, and that row.
+#[no_mangle]
+pub extern "C" fn panel_draw(
+    description: &[u8],
+    start: bool,
+    cost: u64,
+    placement: &[u8; 16],
+    answer: &mut [u64; 2],
+    row: &mut [u8; 16],
+) -> u64
+    ensures { λ r. ⌜ r ≡ status (drawCall (now (description .entry)) (record { start = start; cost = cost; placement = now (placement .entry) })) ⌝ }
+    ensures { λ _. ⌜ now (answer .exit) ≡ valuesAfter rowOrNone (drawCall (now (description .entry)) (record { start = start; cost = cost; placement = now (placement .entry) })) (now (answer .entry)) ⌝ }
+    ensures { λ _. ⌜ now (row .exit) ≡ valuesAfter rowBytes (drawCall (now (description .entry)) (record { start = start; cost = cost; placement = now (placement .entry) })) (now (row .entry)) ⌝ }
+{
+    let bytes = *placement;
+    let cursor = Cursor {
+        start,
+        cost,
+        placement: bytes,
+    };
+    let drawn = lister::draw(description, cursor);
+    put_row(drawn, answer, row)
+}
+
+// List: the rows in lent words, two for each, and how many rows there are and blocks each has.
+#[no_mangle]
+pub extern "C" fn panel_list(
+    description: &[u8],
+    rows: &mut [u64],
+    scratch: &mut [u64],
+    extent: &mut [u64; 2],
+) -> u64
+    ensures { λ r. ⌜ r ≡ status (listCall (now (description .entry)) (min (length (now (rows .entry))) (length (now (scratch .entry))))) ⌝ }
+    ensures { λ _. ⌜ now (rows .exit) ≡ rowsAfter (now (description .entry)) (min (length (now (rows .entry))) (length (now (scratch .entry)))) (now (rows .entry)) ⌝ }
+    ensures { λ _. ⌜ now (scratch .exit) ≡ scratchAfter (now (description .entry)) (min (length (now (rows .entry))) (length (now (scratch .entry)))) (now (scratch .entry)) ⌝ }
+    ensures { λ _. ⌜ now (extent .exit) ≡ valuesAfter extentValues (listCall (now (description .entry)) (min (length (now (rows .entry))) (length (now (scratch .entry))))) (now (extent .entry)) ⌝ }
+{
+    let listed = enumeration::list(description, rows, scratch);
+    put_extent(listed, extent)
+}

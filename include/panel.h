@@ -1,0 +1,119 @@
+/*
+ * The placement engine for C: six calls on a description of a workflow and its clouds. docs/FORMAT.md has the format, the rules and
+ * what a placement, a row and an option are; each call is proved to do what the definitions behind that document say.
+ *
+ * A description is any bytes with their length. Nothing has to hold of them: what is wrong comes back as a refusal.
+ *
+ * Status. Every call answers 0, or a refusal as one word: its number in the low 8 bits (PANEL_NUMBER), its place in the other 56
+ * (PANEL_PLACE). A place that did not fit would be the highest that does; none is ever that large.
+ *
+ *   number   what is wrong                                                          place
+ *     1      the input stops within a command, or before the end command            offset of that command, or the length
+ *     2      there is no such command                                               its offset
+ *     3      something stands behind the end command                                its offset
+ *     4      a cloud, block or edge more than there may be                          offset of the command
+ *     5      a level, location or clearance over 15                                 offset of the command
+ *     6      it names what is not there, or what is of the wrong kind               offset of the command
+ *     7      the edge is there already; the datum has a writer, the block a pin     offset of the command
+ *     8      no cloud, or no block                                                  the length
+ *     9      rule 2: a service's location is above its clearance                    block
+ *    10      rule 3: a service reads above its clearance                            edge
+ *    11      rule 4: a service writes below its location                            edge
+ *    12      more than 65,536 candidates                                            0
+ *    13      the placement is no candidate (panel_judge, panel_transfers)           position of the byte
+ *    14      rule 16: a read copies a datum to too low a cloud (the same two)       edge
+ *    15      rule 17: a write does (the same two)                                   edge
+ *    16      too little room (panel_transfers, panel_list)                          bytes, or words, that are needed
+ *
+ * Lent memory. A call reads and writes what it is lent and nothing else, and keeps no pointer. Where it answers 0 the arrays below are
+ * written as each call says; after any refusal every lent byte is as it was. Pointers are not null, even with a length of 0, and words
+ * are aligned as the compiler aligns them. What a call may write overlaps nothing else that it is lent: panel_draw's row is not its
+ * placement, panel_list's scratch is not its rows. Two inputs may overlap.
+ *
+ * Threads. Nothing is kept between calls and there are no global variables: any number of threads may call at once, as long as none
+ * writes what another is lent. No call allocates, and each ends. PANEL_STACK bytes of stack are enough for any call: this was measured and
+ * read from the compiled code, and is not proved.
+ *
+ * Example: all rows, the cheapest first, one draw at a time (examples/list.c lists them with one call).
+ *
+ *     uint8_t past[PANEL_BLOCKS] = {0}, row[PANEL_BLOCKS];
+ *     uint64_t answer[2];
+ *     uint64_t status = panel_draw(bytes, length, true, 0, past, answer, row);
+ *     while (status == 0 && answer[0] == 1) {
+ *         show(answer[1], row);
+ *         memcpy(past, row, sizeof past);
+ *         status = panel_draw(bytes, length, false, answer[1], past, answer, row);
+ *     }
+ *     if (status != 0)
+ *         complain(PANEL_NUMBER(status), PANEL_PLACE(status));
+ */
+#ifndef PANEL_H
+#define PANEL_H
+
+#include <stdbool.h>
+#include <stddef.h>
+#include <stdint.h>
+
+#define PANEL_BLOCKS 16     /* bytes of a placement: the cloud of each block, and 0 where there is no block */
+#define PANEL_TRANSFERS 128 /* bytes that hold the transfers of any placement */
+#define PANEL_LIST 131072   /* words that hold the rows of any description; the scratch needs as many */
+#define PANEL_STACK 65536   /* bytes of stack that are enough for any call: the deepest, panel_list, takes some 57,000 */
+
+#define PANEL_NUMBER(status) ((unsigned)((status) & 255))
+#define PANEL_PLACE(status) ((uint64_t)(status) >> 8)
+
+#ifdef __cplusplus
+extern "C" {
+#endif
+
+/*
+ * Read: is the description accepted? Refuses with 1 to 12.
+ * counts: clouds, blocks, edges.
+ */
+uint64_t panel_read(const uint8_t *description, size_t length, uint64_t counts[3]);
+
+/*
+ * Judge: is the placement secure? Refuses with 1 to 15; writes nothing.
+ */
+uint64_t panel_judge(const uint8_t *description, size_t length, const uint8_t placement[16]);
+
+/*
+ * Transfers: what a secure placement moves from cloud to cloud, in edge order. Refuses with 1 to 16.
+ * buffer: four bytes for each at the front: edge, datum, cloud that it leaves, cloud that it enters; the bytes behind them stay. room is
+ *         its length in bytes.
+ * count: how many transfers.
+ */
+uint64_t panel_transfers(const uint8_t *description, size_t length, const uint8_t placement[16],
+                         uint8_t *buffer, size_t room, uint64_t count[1]);
+
+/*
+ * Census: how many placements and options there are. Refuses with 1 to 12.
+ * figures: candidates, those that break rule 16, those that break rule 17 and not 16, secure ones, options.
+ */
+uint64_t panel_census(const uint8_t *description, size_t length, uint64_t figures[5]);
+
+/*
+ * Draw: the first row from the start, where start is true (cost and placement are not looked at, but placement is still sixteen readable
+ * bytes); else the first row that comes after cost and placement, which need not be a row. Refuses with 1 to 12.
+ * answer: 1 and the row's cost; 0 and 0 where there is no row left.
+ * row: the row's placement; zeros where there is none.
+ */
+uint64_t panel_draw(const uint8_t *description, size_t length, bool start, uint64_t cost, const uint8_t placement[16],
+                    uint64_t answer[2], uint8_t row[16]);
+
+/*
+ * List: all rows at once, the cheapest first. Refuses with 1 to 12, and with 16 where rows or scratch is shorter than two words a row.
+ * rows: two words for each row at the front: its cost, and the clouds of its blocks as digits to the base 8, the first block's the
+ *       highest; the words behind them stay. room is its length in words.
+ * scratch: room to sort with, as much as the rows need; that much is zeros afterwards, and the words behind it stay. scratch_room is its
+ *          length in words.
+ * extent: rows, blocks.
+ */
+uint64_t panel_list(const uint8_t *description, size_t length, uint64_t *rows, size_t room,
+                    uint64_t *scratch, size_t scratch_room, uint64_t extent[2]);
+
+#ifdef __cplusplus
+}
+#endif
+
+#endif
