@@ -1,0 +1,99 @@
+//! Options, and the row that stands for each (docs/FORMAT.md, section 4).
+
+use std::collections::HashMap;
+
+use crate::description::{Description, Way};
+use crate::rules::{Placement, Row};
+
+/// No cloud has these numbers: they set off the lists in a key.
+const END: u8 = 255;
+const EMPTY: u8 = 254;
+
+/// The services at the two sides of a datum, the readers in edge order.
+struct Links {
+    datum: usize,
+    writer: Option<usize>,
+    readers: Vec<usize>,
+}
+
+impl Links {
+    fn of(described: &Description, datum: usize) -> Self {
+        let services = |way| {
+            let edges = described.edges.iter();
+            edges
+                .filter(move |e| e.way == way && e.datum == datum)
+                .map(|e| e.service)
+        };
+        Links {
+            datum,
+            writer: services(Way::Writes).next(),
+            readers: services(Way::Reads).collect(),
+        }
+    }
+
+    /// Adds the datum's stem and branches to a key.
+    fn put(&self, placement: &Placement, key: &mut Vec<u8>) {
+        let home = placement[self.datum];
+        let elsewhere = |service: usize| Some(placement[service]).filter(|&cloud| cloud != home);
+        key.extend(self.writer.and_then(elsewhere));
+        key.push(home);
+        if let [reader] = self.readers[..] {
+            key.extend(elsewhere(reader));
+        } else {
+            let branches = self.readers.iter().map(|&reader| elsewhere(reader));
+            key.push(END);
+            key.extend(branches.map(|branch| branch.unwrap_or(EMPTY)));
+        }
+        key.push(END);
+    }
+}
+
+/// What makes two placements of a description one option.
+struct Sameness {
+    services: Vec<usize>,
+    links: Vec<Links>,
+}
+
+impl Sameness {
+    fn of(described: &Description) -> Self {
+        let blocks = 0..described.blocks.len();
+        let (data, services): (Vec<_>, _) = blocks.partition(|&b| described.blocks[b].is_datum());
+        Sameness {
+            services,
+            links: data.iter().map(|&d| Links::of(described, d)).collect(),
+        }
+    }
+
+    /// Equal exactly for secure placements of one option.
+    fn key(&self, placement: &Placement) -> Vec<u8> {
+        let mut key = Vec::with_capacity(64);
+        key.extend(self.services.iter().map(|&service| placement[service]));
+        for links in &self.links {
+            links.put(placement, &mut key);
+        }
+        key
+    }
+}
+
+/// The row of each option.
+pub fn rows_by_option(described: &Description) -> HashMap<Vec<u8>, Row> {
+    let sameness = Sameness::of(described);
+    let mut rows = HashMap::new();
+    for placement in described.candidates() {
+        if described.is_secure(&placement) {
+            let cost = described.cost(&placement);
+            let row = Row { cost, placement };
+            rows.entry(sameness.key(&placement))
+                .and_modify(|kept: &mut Row| *kept = row.min(*kept))
+                .or_insert(row);
+        }
+    }
+    rows
+}
+
+/// All rows in their order.
+pub fn sorted_rows(described: &Description) -> Vec<Row> {
+    let mut rows: Vec<Row> = rows_by_option(described).into_values().collect();
+    rows.sort_unstable();
+    rows
+}

@@ -1,0 +1,178 @@
+//! The rules, the candidates and the cost of one of them (docs/FORMAT.md, sections 2 and 3).
+
+use crate::description::{Block, Cloud, Description, Edge, Kind, Refusal, Way};
+
+/// The cloud of each block, then zeros.
+pub type Placement = [u8; 16];
+
+/// Rows are ordered by cost, then by their bytes.
+#[derive(Clone, Copy, Debug, PartialEq, Eq, PartialOrd, Ord)]
+pub struct Row {
+    pub cost: u64,
+    pub placement: Placement,
+}
+
+impl Cloud {
+    /// What a block is charged where it stands.
+    pub fn charge(&self, block: &Block) -> u64 {
+        match block.kind {
+            Kind::Datum {
+                gigabytes,
+                longevity,
+            } => gigabytes * longevity * self.storage,
+            Kind::Service { units, .. } => units * self.cpu,
+        }
+    }
+}
+
+impl Description {
+    /// Rules 2, 3 and 4 and the limit on candidates: numbers 9 to 12.
+    pub(crate) fn check(&self) -> Result<(), Refusal> {
+        let blocks = self.blocks.iter().position(breaks_rule_2);
+        let reads = self.edges.iter().position(|e| self.breaks_rule_3(e));
+        let writes = self.edges.iter().position(|e| self.breaks_rule_4(e));
+        let crowd = (self.candidate_count() > 65536).then_some(0);
+        for (number, broken) in [(9, blocks), (10, reads), (11, writes), (12, crowd)] {
+            if let Some(place) = broken {
+                return Err(Refusal { number, place });
+            }
+        }
+        Ok(())
+    }
+
+    fn breaks_rule_3(&self, edge: &Edge) -> bool {
+        let Kind::Service { clearance, .. } = self.blocks[edge.service].kind else {
+            return false;
+        };
+        edge.way == Way::Reads && clearance < self.blocks[edge.datum].level
+    }
+
+    fn breaks_rule_4(&self, edge: &Edge) -> bool {
+        edge.way == Way::Writes && self.blocks[edge.service].level > self.blocks[edge.datum].level
+    }
+
+    /// Rule 7 and the pin.
+    pub fn may_stand(&self, block: &Block, cloud: usize) -> bool {
+        self.clouds[cloud].level >= block.level
+            && block.pin.is_none_or(|pin| usize::from(pin) == cloud)
+    }
+
+    /// The clouds that a block may stand on.
+    fn choices(&self, block: &Block) -> Vec<u8> {
+        let clouds = 0..self.clouds.len();
+        clouds
+            .filter(|&cloud| self.may_stand(block, cloud))
+            .map(|cloud| cloud as u8)
+            .collect()
+    }
+
+    pub fn candidate_count(&self) -> u64 {
+        let choices = |block| {
+            let clouds = 0..self.clouds.len();
+            clouds.filter(|&c| self.may_stand(block, c)).count() as u64
+        };
+        self.blocks.iter().map(choices).product()
+    }
+
+    pub fn candidates(&self) -> Candidates {
+        Candidates::of(self.blocks.iter().map(|b| self.choices(b)).collect())
+    }
+
+    /// The edge would leave a copy on a cloud below the datum's level: rule 16 for a read, 17 for
+    /// a write.
+    pub fn exposes(&self, edge: &Edge, service: usize, datum: usize) -> bool {
+        service != datum && self.clouds[service].level < self.blocks[edge.datum].level
+    }
+
+    /// What the edge's transfer is charged, its service and datum on these clouds.
+    pub fn transfer(&self, edge: &Edge, service: usize, datum: usize) -> u64 {
+        let Kind::Datum { gigabytes, .. } = self.blocks[edge.datum].kind else {
+            return 0;
+        };
+        let (source, destination) = match edge.way {
+            Way::Reads => (datum, service),
+            Way::Writes => (service, datum),
+        };
+        if source == destination {
+            return 0;
+        }
+        gigabytes * (self.clouds[source].outward + self.clouds[destination].inward)
+    }
+
+    pub fn is_secure(&self, placement: &Placement) -> bool {
+        let exposes = |e: &Edge| {
+            let [service, datum] = e.ends(placement);
+            self.exposes(e, service, datum)
+        };
+        !self.edges.iter().any(exposes)
+    }
+
+    pub fn cost(&self, placement: &Placement) -> u64 {
+        let blocks = self.blocks.iter().zip(placement);
+        let standing = blocks.map(|(b, &c)| self.clouds[usize::from(c)].charge(b));
+        let moving = self.edges.iter().map(|e| {
+            let [service, datum] = e.ends(placement);
+            self.transfer(e, service, datum)
+        });
+        standing.sum::<u64>() + moving.sum::<u64>()
+    }
+}
+
+fn breaks_rule_2(block: &Block) -> bool {
+    matches!(block.kind, Kind::Service { clearance, .. } if clearance < block.level)
+}
+
+impl Edge {
+    /// The clouds of the edge's service and of its datum.
+    pub fn ends(&self, placement: &Placement) -> [usize; 2] {
+        [self.service, self.datum].map(|block| usize::from(placement[block]))
+    }
+}
+
+/// All candidates in dictionary order, counted up like the wheels of an odometer.
+pub struct Candidates {
+    choices: Vec<Vec<u8>>,
+    picks: [usize; 16],
+    upcoming: Option<Placement>,
+}
+
+impl Candidates {
+    fn of(choices: Vec<Vec<u8>>) -> Self {
+        let mut first = [0; 16];
+        let mut some = true;
+        for (cloud, choice) in first.iter_mut().zip(&choices) {
+            match choice.first() {
+                Some(&lowest) => *cloud = lowest,
+                None => some = false,
+            }
+        }
+        Candidates {
+            choices,
+            picks: [0; 16],
+            upcoming: some.then_some(first),
+        }
+    }
+
+    fn after(&mut self, mut placement: Placement) -> Option<Placement> {
+        for (b, choice) in self.choices.iter().enumerate().rev() {
+            self.picks[b] += 1;
+            if let Some(&cloud) = choice.get(self.picks[b]) {
+                placement[b] = cloud;
+                return Some(placement);
+            }
+            self.picks[b] = 0;
+            placement[b] = choice[0];
+        }
+        None
+    }
+}
+
+impl Iterator for Candidates {
+    type Item = Placement;
+
+    fn next(&mut self) -> Option<Placement> {
+        let placement = self.upcoming?;
+        self.upcoming = self.after(placement);
+        Some(placement)
+    }
+}
