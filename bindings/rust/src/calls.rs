@@ -1,0 +1,161 @@
+//! The six calls on bytes and lent memory, as the library has them.
+//!
+//! [`Description`](crate::Description) is more convenient. These functions are for callers who keep
+//! the memory themselves: none allocates, and none keeps anything. Each one starts with what
+//! [`read`] does, so any bytes will do for a description. After a refusal all lent memory is as it
+//! was before the call.
+
+use crate::ffi::{self, Status};
+use crate::{Cursor, Placement, Refusal};
+
+fn answered(status: Status) -> Result<(), Refusal> {
+    if status == 0 {
+        return Ok(());
+    }
+    Err(Refusal {
+        number: (status & 255) as u8,
+        place: status >> 8,
+    })
+}
+
+/// Reads a description; `counts` are its clouds, blocks and edges.
+///
+/// ```
+/// let mut counts = [0; 3];
+/// panel::calls::read(include_bytes!("../../../examples/interview.bin"), &mut counts)?;
+/// assert_eq!(counts, [2, 5, 4]);
+/// # Ok::<(), panel::Refusal>(())
+/// ```
+///
+/// # Errors
+///
+/// Refuses with 1 to 12.
+pub fn read(description: &[u8], counts: &mut [u64; 3]) -> Result<(), Refusal> {
+    answered(ffi::read(description, counts))
+}
+
+/// Judges a placement: secure, or refused.
+///
+/// ```
+/// let interview = include_bytes!("../../../examples/interview.bin");
+/// assert!(panel::calls::judge(interview, &[1, 1, 0, 0, 0].into()).is_ok());
+/// ```
+///
+/// # Errors
+///
+/// Refuses with 1 to 15.
+pub fn judge(description: &[u8], placement: &Placement) -> Result<(), Refusal> {
+    answered(ffi::judge(description, &placement.0))
+}
+
+/// Puts the transfers of a secure placement at the front of the buffer, four bytes each: edge,
+/// datum, the cloud it leaves, the cloud it enters. `count` is their number. What lies behind them
+/// in the buffer is as before. 128 bytes are always enough.
+///
+/// ```
+/// let interview = include_bytes!("../../../examples/interview.bin");
+/// let (mut buffer, mut count) = ([9; 6], 0);
+/// panel::calls::transfers(interview, &[1, 1, 0, 0, 0].into(), &mut buffer, &mut count)?;
+/// assert_eq!((count, buffer), (1, [1, 2, 1, 0, 9, 9]));
+/// # Ok::<(), panel::Refusal>(())
+/// ```
+///
+/// # Errors
+///
+/// Refuses with 1 to 15, and with 16 and the bytes needed where the buffer is shorter than that.
+pub fn transfers(
+    description: &[u8],
+    placement: &Placement,
+    buffer: &mut [u8],
+    count: &mut u64,
+) -> Result<(), Refusal> {
+    answered(ffi::transfers(description, &placement.0, buffer, count))
+}
+
+/// Counts the candidates, those that break rule 16, those that break rule 17 and not 16, the
+/// secure ones, and the options.
+///
+/// ```
+/// let mut figures = [0; 5];
+/// panel::calls::census(include_bytes!("../../../examples/interview.bin"), &mut figures)?;
+/// assert_eq!(figures, [16, 8, 0, 8, 6]);
+/// # Ok::<(), panel::Refusal>(())
+/// ```
+///
+/// # Errors
+///
+/// Refuses with 1 to 12.
+pub fn census(description: &[u8], figures: &mut [u64; 5]) -> Result<(), Refusal> {
+    answered(ffi::census(description, figures))
+}
+
+/// Draws the first row past a cursor. `answer` is 1 and the row's cost, with its clouds in `row`;
+/// or 0 and 0, with zeros in `row`, where no row is left.
+///
+/// ```
+/// use panel::Cursor;
+///
+/// let interview = include_bytes!("../../../examples/interview.bin");
+/// let (mut answer, mut row) = ([0; 2], [0; 16]);
+/// panel::calls::draw(interview, Cursor::Start, &mut answer, &mut row)?;
+/// assert_eq!((answer, &row[..5]), ([1, 2820], &[1, 1, 1, 1, 1][..]));
+/// # Ok::<(), panel::Refusal>(())
+/// ```
+///
+/// # Errors
+///
+/// Refuses with 1 to 12.
+pub fn draw(
+    description: &[u8],
+    cursor: Cursor,
+    answer: &mut [u64; 2],
+    row: &mut [u8; 16],
+) -> Result<(), Refusal> {
+    let past = match &cursor {
+        Cursor::Start => None,
+        Cursor::Past { cost, placement } => Some((*cost, &placement.0)),
+    };
+    answered(ffi::draw(description, past, answer, row))
+}
+
+/// Lists all rows after one walk. A row takes two words of `rows`: its cost, and the clouds of its
+/// blocks as the digits of one number to the base 8, the first block's digit the highest. `scratch`
+/// is for sorting and must be as long as the rows need; that much of it is zeros afterwards.
+/// `extent` is the number of rows and of blocks. 131,072 words each are always enough.
+///
+/// ```
+/// let interview = include_bytes!("../../../examples/interview.bin");
+/// let (mut rows, mut scratch, mut extent) = ([0; 12], [0; 12], [0; 2]);
+/// panel::calls::list(interview, &mut rows, &mut scratch, &mut extent)?;
+/// assert_eq!(extent, [6, 5]);
+/// assert_eq!(rows[..2], [2820, 0o11111]);
+/// # Ok::<(), panel::Refusal>(())
+/// ```
+///
+/// # Errors
+///
+/// Refuses with 1 to 12, and with 16 and the words needed where either slice is shorter than that.
+pub fn list(
+    description: &[u8],
+    rows: &mut [u64],
+    scratch: &mut [u64],
+    extent: &mut [u64; 2],
+) -> Result<(), Refusal> {
+    answered(ffi::list(description, rows, scratch, extent))
+}
+
+#[cfg(test)]
+mod tests {
+    use super::*;
+
+    #[test]
+    fn a_status_is_taken_apart() {
+        assert_eq!(answered(0), Ok(()));
+        let refusal = answered(12).unwrap_err();
+        assert_eq!((refusal.number, refusal.place), (12, 0));
+        let refusal = answered(1 + (65_536 << 8)).unwrap_err();
+        assert_eq!((refusal.number, refusal.place), (1, 65_536));
+        let refusal = answered(u64::MAX).unwrap_err();
+        assert_eq!((refusal.number, refusal.place), (255, u64::MAX >> 8));
+    }
+}

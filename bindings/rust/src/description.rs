@@ -1,0 +1,238 @@
+//! An accepted description and what it answers.
+
+use std::iter::FusedIterator;
+
+use crate::{Census, Cursor, Placement, Refusal, Row, Transfer, calls};
+
+/// Bytes that always hold the transfers: four for each of 32 edges.
+const TRANSFERS: usize = 128;
+
+/// The most candidates that a description may have, so also the most rows.
+const CANDIDATES: usize = 65_536;
+
+/// A description that was accepted: a workflow, the clouds it could run on, and its pins.
+#[derive(Debug, Clone, PartialEq, Eq, Hash)]
+pub struct Description {
+    bytes: Box<[u8]>,
+    clouds: usize,
+    blocks: usize,
+    edges: usize,
+}
+
+impl Description {
+    /// Reads a description and keeps its bytes.
+    ///
+    /// ```
+    /// use panel::Description;
+    ///
+    /// let bytes = include_bytes!("../../../examples/interview.bin");
+    /// assert!(Description::read(bytes).is_ok());
+    ///
+    /// let refusal = Description::read(&bytes[..64]).unwrap_err();
+    /// assert_eq!((refusal.number, refusal.place), (1, 64));
+    /// ```
+    ///
+    /// # Errors
+    ///
+    /// Refuses with 1 to 12 what is no description.
+    pub fn read(bytes: &[u8]) -> Result<Self, Refusal> {
+        let mut counts = [0; 3];
+        calls::read(bytes, &mut counts)?;
+        let [clouds, blocks, edges] = counts.map(|count| count as usize);
+        Ok(Description {
+            bytes: bytes.into(),
+            clouds,
+            blocks,
+            edges,
+        })
+    }
+
+    /// The bytes that were read.
+    #[must_use]
+    pub fn bytes(&self) -> &[u8] {
+        &self.bytes
+    }
+
+    /// How many clouds it declares, 1 to 8.
+    #[must_use]
+    pub fn clouds(&self) -> usize {
+        self.clouds
+    }
+
+    /// How many data and services it declares together, 1 to 16.
+    #[must_use]
+    pub fn blocks(&self) -> usize {
+        self.blocks
+    }
+
+    /// How many reads and writes it declares together, up to 32.
+    #[must_use]
+    pub fn edges(&self) -> usize {
+        self.edges
+    }
+
+    /// Judges a placement: `Ok` where it is secure.
+    ///
+    /// ```
+    /// use panel::Description;
+    ///
+    /// let interview = Description::read(include_bytes!("../../../examples/interview.bin"))?;
+    /// assert!(interview.judge(&[1, 1, 0, 0, 0].into()).is_ok());
+    ///
+    /// let refusal = interview.judge(&[0, 1, 1, 1, 1].into()).unwrap_err();
+    /// assert_eq!((refusal.number, refusal.place), (13, 0));
+    /// # Ok::<(), panel::Refusal>(())
+    /// ```
+    ///
+    /// # Errors
+    ///
+    /// Refuses with 13 what is no candidate, with 14 or 15 what breaks rule 16 or 17.
+    pub fn judge(&self, placement: &Placement) -> Result<(), Refusal> {
+        calls::judge(&self.bytes, placement)
+    }
+
+    /// Counts the placements of each kind.
+    ///
+    /// ```
+    /// use panel::Description;
+    ///
+    /// let interview = Description::read(include_bytes!("../../../examples/interview.bin"))?;
+    /// let census = interview.census();
+    /// assert_eq!((census.candidates, census.breaking16, census.secure), (16, 8, 8));
+    /// assert_eq!(census.options, 6);
+    /// # Ok::<(), panel::Refusal>(())
+    /// ```
+    #[must_use]
+    pub fn census(&self) -> Census {
+        let mut figures = [0; 5];
+        accepted(calls::census(&self.bytes, &mut figures));
+        let [candidates, breaking16, breaking17_only, secure, options] = figures;
+        Census {
+            candidates,
+            breaking16,
+            breaking17_only,
+            secure,
+            options,
+        }
+    }
+
+    /// The transfers of a secure placement, in edge order.
+    ///
+    /// ```
+    /// use panel::Description;
+    ///
+    /// let interview = Description::read(include_bytes!("../../../examples/interview.bin"))?;
+    /// assert!(interview.transfers(&[1, 1, 1, 1, 1].into())?.is_empty());
+    /// # Ok::<(), panel::Refusal>(())
+    /// ```
+    ///
+    /// # Errors
+    ///
+    /// Refuses what [`judge`](Self::judge) refuses.
+    pub fn transfers(&self, placement: &Placement) -> Result<Vec<Transfer>, Refusal> {
+        let (mut buffer, mut count) = ([0; TRANSFERS], 0);
+        calls::transfers(&self.bytes, placement, &mut buffer, &mut count)?;
+        let (transfers, _) = buffer.as_chunks::<4>();
+        let transfers = transfers.iter().take(count as usize);
+        Ok(transfers.copied().map(Transfer::from).collect())
+    }
+
+    /// The first row that is strictly later than the cursor, or `None` where there is none.
+    ///
+    /// Each draw walks over all candidates; to have every row, [`list`](Self::list) walks once.
+    ///
+    /// ```
+    /// use panel::{Cursor, Description};
+    ///
+    /// let interview = Description::read(include_bytes!("../../../examples/interview.bin"))?;
+    /// let first = interview.draw(Cursor::Start).expect("there is a secure placement");
+    /// assert_eq!(first.to_string(), "2820 11111");
+    /// let second = interview.draw(first.into()).expect("there are two");
+    /// assert_eq!(second.to_string(), "2840 11110");
+    /// # Ok::<(), panel::Refusal>(())
+    /// ```
+    #[must_use]
+    pub fn draw(&self, cursor: Cursor) -> Option<Row> {
+        let (mut answer, mut clouds) = ([0; 2], [0; 16]);
+        accepted(calls::draw(&self.bytes, cursor, &mut answer, &mut clouds));
+        let [found, cost] = answer;
+        (found == 1).then(|| Row::new(cost, Placement(clouds), self.blocks))
+    }
+
+    /// All rows in their order, each drawn when it is asked for.
+    ///
+    /// ```
+    /// use panel::Description;
+    ///
+    /// let interview = Description::read(include_bytes!("../../../examples/interview.bin"))?;
+    /// let cheap: Vec<_> = interview.rows().take_while(|row| row.cost() < 2900).collect();
+    /// assert_eq!(cheap.len(), 2);
+    /// # Ok::<(), panel::Refusal>(())
+    /// ```
+    #[must_use]
+    pub fn rows(&self) -> Rows<'_> {
+        Rows {
+            description: self,
+            cursor: Some(Cursor::Start),
+        }
+    }
+
+    /// All rows in their order, after a single walk over the candidates.
+    ///
+    /// ```
+    /// use panel::Description;
+    ///
+    /// let interview = Description::read(include_bytes!("../../../examples/interview.bin"))?;
+    /// assert!(interview.list().into_iter().eq(interview.rows()));
+    /// # Ok::<(), panel::Refusal>(())
+    /// ```
+    #[must_use]
+    pub fn list(&self) -> Vec<Row> {
+        let mut rows = vec![0; 2 * self.most_rows()];
+        let mut scratch = rows.clone();
+        let mut extent = [0; 2];
+        accepted(calls::list(
+            &self.bytes,
+            &mut rows,
+            &mut scratch,
+            &mut extent,
+        ));
+        let (rows, _) = rows.as_chunks::<2>();
+        let rows = rows.iter().take(extent[0] as usize);
+        rows.map(|&[cost, packed]| Row::unpack(cost, packed, self.blocks))
+            .collect()
+    }
+
+    /// A row is a placement of every block on some cloud, and there are no more than candidates.
+    fn most_rows(&self) -> usize {
+        let placements = self.clouds.saturating_pow(self.blocks as u32);
+        placements.min(CANDIDATES)
+    }
+}
+
+/// The answer about bytes that were accepted, with as much memory lent as is ever needed.
+fn accepted(answer: Result<(), Refusal>) {
+    if let Err(refusal) = answer {
+        unreachable!("nothing can be refused here: {refusal}");
+    }
+}
+
+/// The rows of a description in their order, drawn one by one: see [`Description::rows`].
+#[derive(Debug, Clone)]
+pub struct Rows<'a> {
+    description: &'a Description,
+    /// Past the row drawn last; nothing once a draw has found no more.
+    cursor: Option<Cursor>,
+}
+
+impl Iterator for Rows<'_> {
+    type Item = Row;
+
+    fn next(&mut self) -> Option<Row> {
+        let row = self.description.draw(self.cursor?);
+        self.cursor = row.map(Cursor::from);
+        row
+    }
+}
+
+impl FusedIterator for Rows<'_> {}

@@ -1,0 +1,51 @@
+//! The proved placement engine, for Rust.
+//!
+//! A *description* is a string of bytes that declares clouds, data, services, and which service
+//! reads and writes which datum (docs/FORMAT.md has all of it). A *placement* puts each block, that
+//! is each datum and service, on a cloud. The engine tells which placements are secure, what each
+//! costs, and lists the options that an editor has, cheapest first, one *row* for each.
+//!
+//! ```
+//! use panel::{Description, Placement};
+//!
+//! # fn main() -> Result<(), panel::Refusal> {
+//! let bytes = include_bytes!("../../../examples/interview.bin");
+//! let interview = Description::read(bytes)?;
+//! assert_eq!((interview.clouds(), interview.blocks(), interview.edges()), (2, 5, 4));
+//!
+//! let lines: Vec<String> = interview.rows().map(|row| row.to_string()).collect();
+//! assert_eq!(
+//!     lines,
+//!     ["2820 11111", "2840 11110", "2920 11000", "2940 11001", "3020 11011", "3040 11010"]
+//! );
+//!
+//! // With its transcode on cloud 0, the interview would be copied to a store below its level.
+//! let refusal = interview.judge(&Placement::from([1, 0, 0, 0, 0])).unwrap_err();
+//! assert_eq!((refusal.number, refusal.place), (14, 0));
+//! # Ok(())
+//! # }
+//! ```
+//!
+//! # Linking
+//!
+//! The engine is the static library `libpanel.a`. The build looks for it in `target/staticlib` of
+//! the repository; the environment variable `PANEL_LIB_DIR` names another folder, as a path from the
+//! root on.
+//!
+//! # What may go wrong
+//!
+//! No call has a precondition, and none panics: any bytes will do, and what is wrong with them comes
+//! back as a [`Refusal`] that says what, where, and what to mend. Once [`Description::read`] has
+//! accepted a description, nothing about it can be refused any more, only placements can.
+
+#![warn(missing_docs)]
+
+pub mod calls;
+mod description;
+mod ffi;
+mod refusal;
+mod values;
+
+pub use description::{Description, Rows};
+pub use refusal::Refusal;
+pub use values::{Census, Cursor, Placement, Row, Transfer};

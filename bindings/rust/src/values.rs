@@ -1,0 +1,243 @@
+//! What is put to the calls and what they answer.
+
+use std::fmt;
+
+/// The cloud of each block: the byte at position b is the number of the cloud on which block b
+/// stands. Positions that have no block hold 0.
+///
+/// Made from an array of up to sixteen clouds, which zeros fill up:
+///
+/// ```
+/// use panel::Placement;
+///
+/// let placement = Placement::from([1, 1, 0, 0, 0]);
+/// assert_eq!(placement.0, [1, 1, 0, 0, 0, 0, 0, 0, 0, 0, 0, 0, 0, 0, 0, 0]);
+/// ```
+///
+/// A longer array does not compile:
+///
+/// ```compile_fail
+/// let placement = panel::Placement::from([0; 17]);
+/// ```
+#[derive(Debug, Clone, Copy, PartialEq, Eq, PartialOrd, Ord, Hash, Default)]
+pub struct Placement(
+    /// The sixteen bytes.
+    pub [u8; 16],
+);
+
+impl<const N: usize> From<[u8; N]> for Placement {
+    fn from(clouds: [u8; N]) -> Self {
+        const { assert!(N <= 16, "a placement has sixteen positions") };
+        let mut bytes = [0; 16];
+        bytes[..N].copy_from_slice(&clouds);
+        Placement(bytes)
+    }
+}
+
+/// An option: its cheapest placement and what that costs.
+///
+/// Rows are ordered by cost, the lower first, and at equal cost by their bytes. A row is shown as
+/// `listoptions` prints it: the cost, a space, and a digit for each block.
+///
+/// ```
+/// use panel::Description;
+///
+/// let interview = Description::read(include_bytes!("../../../examples/interview.bin"))?;
+/// let rows = interview.list();
+/// assert!(rows.is_sorted());
+/// assert_eq!(rows[1].cost(), 2840);
+/// assert_eq!(rows[1].clouds(), [1, 1, 1, 1, 0]);
+/// assert_eq!(rows[1].to_string(), "2840 11110");
+/// # Ok::<(), panel::Refusal>(())
+/// ```
+#[derive(Debug, Clone, Copy, PartialEq, Eq, PartialOrd, Ord, Hash)]
+pub struct Row {
+    // The order of the fields is the order of rows.
+    cost: u64,
+    placement: Placement,
+    blocks: usize,
+}
+
+impl Row {
+    /// `blocks` is at most sixteen.
+    pub(crate) fn new(cost: u64, placement: Placement, blocks: usize) -> Self {
+        Row {
+            cost,
+            placement,
+            blocks,
+        }
+    }
+
+    /// From two words of a list: the cost, and the clouds as digits to the base 8.
+    pub(crate) fn unpack(cost: u64, packed: u64, blocks: usize) -> Self {
+        let mut clouds = [0; 16];
+        let mut rest = packed;
+        for cloud in clouds[..blocks].iter_mut().rev() {
+            *cloud = (rest % 8) as u8;
+            rest /= 8;
+        }
+        Row::new(cost, Placement(clouds), blocks)
+    }
+
+    /// What the placement costs; below 2^53.
+    #[must_use]
+    pub fn cost(&self) -> u64 {
+        self.cost
+    }
+
+    /// The placement, to judge it or to ask for its transfers.
+    #[must_use]
+    pub fn placement(&self) -> &Placement {
+        &self.placement
+    }
+
+    /// The cloud of each block, as many as the description has.
+    #[must_use]
+    pub fn clouds(&self) -> &[u8] {
+        &self.placement.0[..self.blocks]
+    }
+}
+
+impl fmt::Display for Row {
+    fn fmt(&self, f: &mut fmt::Formatter<'_>) -> fmt::Result {
+        write!(f, "{} ", self.cost)?;
+        self.clouds().iter().try_for_each(|c| write!(f, "{c}"))
+    }
+}
+
+/// Where a draw goes on from.
+///
+/// Cost 0 and sixteen zeros are not the start: a free row with everything on cloud 0 does not come
+/// strictly after them and would be lost.
+///
+/// ```
+/// use panel::{Cursor, Description, Placement};
+///
+/// // A cloud and a datum, all rates 0.
+/// let free = Description::read(&[1, 0, 0, 0, 0, 0, 0, 0, 0, 0, 2, 0, 0, 0, 0, 0, 0])?;
+/// assert!(free.draw(Cursor::Start).is_some());
+/// let zeros = Cursor::Past { cost: 0, placement: Placement::default() };
+/// assert!(free.draw(zeros).is_none());
+/// # Ok::<(), panel::Refusal>(())
+/// ```
+#[derive(Debug, Clone, Copy, PartialEq, Eq, Hash, Default)]
+pub enum Cursor {
+    /// Before all rows.
+    #[default]
+    Start,
+    /// Strictly past a cost and sixteen bytes, which may be any at all and need not be a row.
+    Past {
+        /// The cost that is compared first.
+        cost: u64,
+        /// The bytes that are compared at equal cost.
+        placement: Placement,
+    },
+}
+
+impl From<Row> for Cursor {
+    /// Past the row.
+    fn from(row: Row) -> Self {
+        Cursor::Past {
+            cost: row.cost,
+            placement: row.placement,
+        }
+    }
+}
+
+/// A datum that is moved from one cloud to another because a service there reads it, or here wrote
+/// it.
+///
+/// ```
+/// use panel::{Description, Transfer};
+///
+/// let interview = Description::read(include_bytes!("../../../examples/interview.bin"))?;
+/// let transfers = interview.transfers(&[1, 1, 0, 0, 0].into())?;
+/// assert_eq!(transfers, [Transfer { edge: 1, datum: 2, from: 1, to: 0 }]);
+/// # Ok::<(), panel::Refusal>(())
+/// ```
+#[derive(Debug, Clone, Copy, PartialEq, Eq, Hash)]
+pub struct Transfer {
+    /// The edge, in the order in which reads and writes are declared.
+    pub edge: u8,
+    /// The datum that is moved, by its number as a block.
+    pub datum: u8,
+    /// The cloud it leaves.
+    pub from: u8,
+    /// The cloud it enters.
+    pub to: u8,
+}
+
+impl From<[u8; 4]> for Transfer {
+    /// From its bytes, in the order of the fields.
+    fn from([edge, datum, from, to]: [u8; 4]) -> Self {
+        Transfer {
+            edge,
+            datum,
+            from,
+            to,
+        }
+    }
+}
+
+/// How many placements there are of each kind. `candidates` is the sum of the next three.
+#[derive(Debug, Clone, Copy, PartialEq, Eq, Hash)]
+pub struct Census {
+    /// Placements with each block on a cloud of sufficient level, and on its pin if it has one.
+    pub candidates: u64,
+    /// Candidates that break rule 16, whether or not they break rule 17.
+    pub breaking16: u64,
+    /// Candidates that break rule 17 and not rule 16.
+    pub breaking17_only: u64,
+    /// Candidates that break neither.
+    pub secure: u64,
+    /// Options that the secure ones make: as many as there are rows.
+    pub options: u64,
+}
+
+#[cfg(test)]
+mod tests {
+    use super::*;
+
+    #[test]
+    fn zeros_fill_a_placement() {
+        assert_eq!(Placement::from([]), Placement::default());
+        assert_eq!(Placement::from([7]).0[..2], [7, 0]);
+        assert_eq!(Placement::from([5; 16]).0, [5; 16]);
+    }
+
+    #[test]
+    fn a_packed_row_is_unpacked() {
+        let row = Row::unpack(2820, 4681, 5);
+        assert_eq!(row.clouds(), [1, 1, 1, 1, 1]);
+        assert_eq!(row.placement(), &Placement::from([1, 1, 1, 1, 1]));
+        assert_eq!(Row::unpack(0, 0o7, 2).clouds(), [0, 7]);
+        let sixteen = Row::unpack(1, 0o1234_5670_0000_0007, 16);
+        assert_eq!(
+            sixteen.clouds(),
+            [1, 2, 3, 4, 5, 6, 7, 0, 0, 0, 0, 0, 0, 0, 0, 7]
+        );
+    }
+
+    #[test]
+    fn rows_are_ordered_by_cost_and_then_bytes() {
+        let row = |cost, clouds: [u8; 2]| Row::new(cost, clouds.into(), 2);
+        assert!(row(1, [7, 7]) < row(2, [0, 0]));
+        assert!(row(2, [0, 7]) < row(2, [1, 0]));
+        assert_eq!(row(2, [1, 0]), row(2, [1, 0]));
+    }
+
+    #[test]
+    fn a_row_shows_a_digit_for_each_block() {
+        assert_eq!(Row::new(0, [0].into(), 1).to_string(), "0 0");
+        let widest = Row::new(1 << 52, [7; 16].into(), 16);
+        assert_eq!(widest.to_string(), "4503599627370496 7777777777777777");
+    }
+
+    #[test]
+    fn a_cursor_is_the_start_unless_said() {
+        assert_eq!(Cursor::default(), Cursor::Start);
+        let past = Cursor::from(Row::new(3, [1].into(), 1));
+        let placement = [1].into();
+        assert_eq!(past, Cursor::Past { cost: 3, placement });
+    }
+}

@@ -1,0 +1,162 @@
+//! The stored examples and the examples of docs/FORMAT.md, through the public types.
+
+use panel::{Census, Cursor, Description, Placement, Refusal, Transfer};
+
+const INTERVIEW: &[u8] = include_bytes!("../../../examples/interview.bin");
+const SECOND: &[u8] = include_bytes!("../../../examples/second.bin");
+
+const CLOUD: [u8; 10] = [1, 0, 0, 0, 0, 0, 0, 0, 0, 0];
+const DATUM: [u8; 6] = [2, 0, 0, 0, 0, 0];
+
+fn accepted(bytes: &[u8]) -> Description {
+    Description::read(bytes).expect("the description is accepted")
+}
+
+fn refusal(bytes: &[u8]) -> (u8, u64) {
+    let refusal = Description::read(bytes).expect_err("the description is refused");
+    (refusal.number, refusal.place)
+}
+
+/// Free clouds and data without edges.
+fn data_alone(clouds: usize, data: usize) -> Vec<u8> {
+    [&CLOUD.repeat(clouds)[..], &DATUM.repeat(data), &[0]].concat()
+}
+
+fn printed(description: &Description) -> String {
+    let rows = description.list();
+    let lines: String = rows.iter().map(|row| format!("{row}\n")).collect();
+    format!("{lines}options {}\n", rows.len())
+}
+
+#[test]
+fn the_examples_are_listed_as_stored() {
+    let stored = include_str!("../../../examples/interview.expected");
+    assert_eq!(printed(&accepted(INTERVIEW)), stored);
+    let stored = include_str!("../../../examples/second.expected");
+    assert_eq!(printed(&accepted(SECOND)), stored);
+}
+
+#[test]
+fn draws_and_list_have_the_same_rows() {
+    for bytes in [INTERVIEW, SECOND, &data_alone(3, 4)] {
+        let description = accepted(bytes);
+        let drawn: Vec<_> = description.rows().collect();
+        assert_eq!(drawn, description.list());
+        assert!(drawn.is_sorted_by(|one, other| one < other));
+        assert_eq!(drawn.len() as u64, description.census().options);
+    }
+}
+
+#[test]
+fn every_row_is_secure() {
+    let description = accepted(SECOND);
+    for row in description.list() {
+        assert_eq!(description.judge(row.placement()), Ok(()));
+    }
+}
+
+#[test]
+fn rows_stay_finished() {
+    let description = accepted(INTERVIEW);
+    let mut rows = description.rows();
+    assert_eq!(rows.by_ref().count(), 6);
+    assert_eq!((rows.next(), rows.next()), (None, None));
+}
+
+#[test]
+fn the_description_keeps_its_bytes_and_counts() {
+    let description = accepted(INTERVIEW);
+    assert_eq!(description.bytes(), INTERVIEW);
+    assert_eq!(description.clouds(), 2);
+    assert_eq!(description.blocks(), 5);
+    assert_eq!(description.edges(), 4);
+    assert_eq!(description.clone(), description);
+}
+
+#[test]
+fn descriptions_are_refused_as_documented() {
+    assert_eq!(refusal(&[]), (1, 0));
+    assert_eq!(refusal(&[0]), (8, 1));
+    assert_eq!(refusal(&[0, 0]), (3, 1));
+    assert_eq!(refusal(&INTERVIEW[..64]), (1, 64));
+    assert_eq!(refusal(&INTERVIEW[..63]), (1, 61));
+    assert_eq!(refusal(&[INTERVIEW, &[7]].concat()), (3, 65));
+    assert_eq!(refusal(&data_alone(3, 11)), (12, 0));
+}
+
+#[test]
+fn placements_are_judged_as_documented() {
+    let description = accepted(INTERVIEW);
+    let judged = |placement: Placement| {
+        let place = |refusal: Refusal| (refusal.number, refusal.place);
+        description.judge(&placement).map_err(place)
+    };
+    assert_eq!(judged([1, 1, 0, 0, 0].into()), Ok(()));
+    assert_eq!(judged([1, 0, 0, 0, 0].into()), Err((14, 0)));
+    assert_eq!(judged([0, 1, 1, 1, 1].into()), Err((13, 0)));
+    assert_eq!(judged([1, 1, 1, 1, 1, 1].into()), Err((13, 5)));
+    let pinned = accepted(&[&INTERVIEW[..64], &[6, 4, 0, 0]].concat());
+    let refused = pinned.judge(&[1, 1, 1, 1, 1].into());
+    assert_eq!(
+        refused,
+        Err(Refusal {
+            number: 13,
+            place: 4
+        })
+    );
+}
+
+#[test]
+fn transfers_are_listed_in_edge_order() {
+    let description = accepted(INTERVIEW);
+    let transfers = |placement: Placement| description.transfers(&placement);
+    assert_eq!(transfers([1, 1, 1, 1, 1].into()), Ok(vec![]));
+    let moved = |edge| Transfer::from([edge, 2, 1, 0]);
+    assert_eq!(transfers([1, 1, 0, 0, 0].into()), Ok(vec![moved(1)]));
+    assert_eq!(transfers([1, 1, 1, 0, 0].into()), Ok(vec![moved(2)]));
+    let refused = transfers([1, 0, 0, 0, 0].into());
+    assert_eq!(refused.unwrap_err().number, 14);
+}
+
+#[test]
+fn a_block_that_fits_nowhere_leaves_no_row() {
+    let bytes = [&CLOUD[..], &[2, 1, 0, 0, 0, 0], &[0]].concat();
+    let description = accepted(&bytes);
+    assert_eq!(description.census().candidates, 0);
+    assert_eq!(description.draw(Cursor::Start), None);
+    assert_eq!(description.list(), []);
+}
+
+#[test]
+fn the_most_candidates_are_listed() {
+    let description = accepted(&data_alone(2, 16));
+    let rows = description.list();
+    assert_eq!(rows.len(), 65_536);
+    assert_eq!(rows[65_535].to_string(), "0 1111111111111111");
+    let census = Census {
+        candidates: 65_536,
+        breaking16: 0,
+        breaking17_only: 0,
+        secure: 65_536,
+        options: 65_536,
+    };
+    assert_eq!(description.census(), census);
+}
+
+#[test]
+fn any_cursor_will_do() {
+    let description = accepted(INTERVIEW);
+    let drawn = |cost, placement| {
+        let row = description.draw(Cursor::Past { cost, placement });
+        row.map(|row| row.to_string())
+    };
+    assert_eq!(
+        drawn(2840, Placement::default()).as_deref(),
+        Some("2840 11110")
+    );
+    assert_eq!(
+        drawn(2840, Placement([255; 16])).as_deref(),
+        Some("2920 11000")
+    );
+    assert_eq!(drawn(u64::MAX, Placement([255; 16])), None);
+}

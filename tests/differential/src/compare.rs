@@ -1,0 +1,304 @@
+//! Puts one input to the library and to the reference, and compares all that comes back.
+
+use std::fmt::Debug;
+
+use panel::{Cursor, Placement as Placed, calls as engine};
+use reference::calls as by_definition;
+use reference::description::{Description, Refusal, read};
+use reference::random::Random;
+use reference::rules::{Placement, Row};
+
+use crate::generate::Kind;
+use crate::lent::{Checked, Lent};
+use crate::operands::{cursor, placement, room};
+use crate::tally::{Call, Tally};
+use crate::wrapped;
+
+/// Where library and reference part.
+pub struct Difference(pub String);
+
+type Agreed = Result<(), Difference>;
+
+/// Of the descriptions with more candidates than QUICK, only the first of every so many is put to
+/// the calls that walk over all of them.
+const QUICK: u64 = 600;
+const RARELY: u64 = 100;
+
+/// One input of so many is put to the wrapper's types as well.
+const WRAPPED: usize = 20;
+
+/// What always holds the transfers, and the rows.
+const ENOUGH_BYTES: usize = 128;
+const ENOUGH_WORDS: usize = 131_072;
+
+/// A description, and what the reference makes of it.
+pub struct Input<'a> {
+    text: Lent<u8>,
+    described: Result<Description, Refusal>,
+    rows: Vec<Row>,
+    random: &'a mut Random,
+    tally: &'a mut Tally,
+}
+
+/// One call, and what both sides answered.
+struct Case<'a> {
+    call: Call,
+    operands: &'a dyn Debug,
+    library: Result<(), panel::Refusal>,
+    reference: Result<&'static str, Refusal>,
+}
+
+impl<'a> Input<'a> {
+    pub fn new(kind: Kind, text: &[u8], random: &'a mut Random, tally: &'a mut Tally) -> Self {
+        tally.input(kind);
+        Input {
+            text: Lent::holding(random, text),
+            described: read(text),
+            rows: Vec::new(),
+            random,
+            tally,
+        }
+    }
+
+    /// Makes all calls, those that are answered several times.
+    pub fn compare(mut self) -> Agreed {
+        let walks = self.prepare();
+        let times = if self.described.is_ok() { 4 } else { 1 };
+        self.read()?;
+        for _ in 0..times {
+            self.judge()?;
+            self.transfers()?;
+        }
+        if walks {
+            self.census()?;
+            for _ in 0..times {
+                self.draw()?;
+                self.list()?;
+            }
+        }
+        if walks && self.random.one_in(WRAPPED) {
+            self.wrapped()?;
+        }
+        Ok(())
+    }
+
+    /// The wrapper's types pass on what the calls answer.
+    fn wrapped(&mut self) -> Agreed {
+        let wrapped = wrapped::difference(self.text.get(), self.described(), &self.rows);
+        if let Some(part) = wrapped {
+            let text = self.hexadecimal();
+            let message = format!("description {text}\ndifference  the wrapper's {part}");
+            return Err(Difference(message));
+        }
+        self.tally.shown("wrapper compared");
+        Ok(())
+    }
+
+    /// Has the reference list the rows, unless that takes too long; says whether the calls that
+    /// walk over all candidates are to be made.
+    fn prepare(&mut self) -> bool {
+        let Ok(described) = &self.described else {
+            return true;
+        };
+        let candidates = described.candidate_count();
+        let walks = candidates <= QUICK || self.tally.one_more_large().is_multiple_of(RARELY);
+        if walks {
+            self.rows = described.rows();
+        }
+        let shown = [
+            ("8 clouds", described.clouds.len() == 8),
+            ("16 blocks", described.blocks.len() == 16),
+            ("32 edges", described.edges.len() == 32),
+            ("65,536 candidates", candidates == 65_536),
+            ("65,536 walked", candidates == 65_536 && walks),
+            ("no candidates", candidates == 0),
+            ("no rows", walks && candidates > 0 && self.rows.is_empty()),
+        ];
+        for (name, _) in shown.into_iter().filter(|(_, holds)| *holds) {
+            self.tally.shown(name);
+        }
+        walks
+    }
+
+    fn described(&self) -> Result<&Description, Refusal> {
+        self.described.as_ref().map_err(|refusal| *refusal)
+    }
+
+    fn placement(&mut self) -> Placement {
+        let described = self.described.as_ref().ok();
+        placement(self.random, described, &self.rows)
+    }
+
+    fn read(&mut self) -> Agreed {
+        let mut counts = Lent::<u64>::new(self.random, 3);
+        let reference = self.described().map(|described| {
+            let [clouds, blocks] = [described.clouds.len(), described.blocks.len()];
+            counts.expect(&[clouds, blocks, described.edges.len()].map(|count| count as u64));
+            "accepted"
+        });
+        let library = engine::read(self.text.get(), counts.lend_array());
+        let case = Case {
+            call: Call::Read,
+            operands: &(),
+            library,
+            reference,
+        };
+        self.settle(&case, &[&counts])
+    }
+
+    fn judge(&mut self) -> Agreed {
+        let placement = self.placement();
+        let judged = self.described().and_then(|d| d.judge(&placement));
+        let case = Case {
+            call: Call::Judge,
+            operands: &placement,
+            library: engine::judge(self.text.get(), &Placed(placement)),
+            reference: judged.map(|()| "secure"),
+        };
+        self.settle(&case, &[])
+    }
+
+    fn transfers(&mut self) -> Agreed {
+        let placement = self.placement();
+        let all = self.described();
+        let all = all.and_then(|described| described.transfers(&placement, usize::MAX));
+        let needed = all.map_or(8, |transfers| 4 * transfers.len());
+        let room = room(self.random, needed, ENOUGH_BYTES);
+        let mut buffer = Lent::<u8>::new(self.random, room);
+        let mut count = Lent::<u64>::new(self.random, 1);
+        let reference = self.described().and_then(|described| {
+            let transfers = described.transfers(&placement, room)?;
+            buffer.expect(&transfers.concat());
+            count.expect(&[transfers.len() as u64]);
+            Ok(if transfers.is_empty() { "none" } else { "some" })
+        });
+        let (place, [lent_count]) = (Placed(placement), count.lend_array());
+        let library = engine::transfers(self.text.get(), &place, buffer.lend(), lent_count);
+        let case = Case {
+            call: Call::Transfers,
+            operands: &(placement, room),
+            library,
+            reference,
+        };
+        self.settle(&case, &[&buffer, &count])
+    }
+
+    fn census(&mut self) -> Agreed {
+        let mut figures = Lent::<u64>::new(self.random, 5);
+        let mut merged = false;
+        let reference = self.described().map(|described| {
+            let c = described.census(&self.rows);
+            merged = c.options < c.secure;
+            let [broken_16, broken_17] = [c.breaking_16, c.breaking_17_only];
+            figures.expect(&[c.candidates, broken_16, broken_17, c.secure, c.options]);
+            "counts"
+        });
+        if merged {
+            self.tally.shown("merged options");
+        }
+        let library = engine::census(self.text.get(), figures.lend_array());
+        let case = Case {
+            call: Call::Census,
+            operands: &(),
+            library,
+            reference,
+        };
+        self.settle(&case, &[&figures])
+    }
+
+    fn draw(&mut self) -> Agreed {
+        let cursor = cursor(self.random, &self.rows);
+        let mut answer = Lent::<u64>::new(self.random, 2);
+        let mut clouds = Lent::<u8>::new(self.random, 16);
+        let reference = self.described().map(|_| {
+            let row = by_definition::draw(&self.rows, cursor);
+            let (cost, placement) = row.map_or((0, [0; 16]), |row| (row.cost, row.placement));
+            answer.expect(&[u64::from(row.is_some()), cost]);
+            clouds.expect(&placement);
+            if row.is_some() { "row" } else { "finished" }
+        });
+        let past = cursor.map_or(Cursor::Start, |Row { cost, placement }| Cursor::Past {
+            cost,
+            placement: Placed(placement),
+        });
+        let lent = (answer.lend_array(), clouds.lend_array());
+        let case = Case {
+            call: Call::Draw,
+            operands: &past,
+            library: engine::draw(self.text.get(), past, lent.0, lent.1),
+            reference,
+        };
+        self.settle(&case, &[&answer, &clouds])
+    }
+
+    fn list(&mut self) -> Agreed {
+        let needed = 2 * self.rows.len();
+        let rooms = match self.random.below(3) {
+            0 => [needed; 2],
+            _ => [(); 2].map(|()| room(self.random, needed, ENOUGH_WORDS)),
+        };
+        let [mut rows, mut scratch] = rooms.map(|room| Lent::<u64>::new(self.random, room));
+        let mut extent = Lent::<u64>::new(self.random, 2);
+        let reference = self.described().and_then(|described| {
+            let blocks = described.blocks.len();
+            let words = by_definition::list(&self.rows, blocks, rooms)?;
+            rows.expect(&words);
+            scratch.expect(&vec![0; words.len()]);
+            extent.expect(&[self.rows.len() as u64, blocks as u64]);
+            Ok(if words.is_empty() { "empty" } else { "rows" })
+        });
+        let lent = (rows.lend(), scratch.lend(), extent.lend_array());
+        let case = Case {
+            call: Call::List,
+            operands: &rooms,
+            library: engine::list(self.text.get(), lent.0, lent.1, lent.2),
+            reference,
+        };
+        self.settle(&case, &[&rows, &scratch, &extent])
+    }
+
+    /// Answers and memory are as they should be, and the description is as it was.
+    fn settle(&mut self, case: &Case, memory: &[&dyn Checked]) -> Agreed {
+        if !case.agrees() {
+            return Err(self.difference(case, "other answers"));
+        }
+        for part in memory {
+            if let Some(difference) = part.difference() {
+                return Err(self.difference(case, &format!("other memory, {difference}")));
+            }
+        }
+        if let Some(difference) = self.text.difference() {
+            return Err(self.difference(case, &format!("the description, {difference}")));
+        }
+        match case.reference {
+            Ok(answer) => self.tally.answered(case.call, answer),
+            Err(refusal) => self.tally.refused(case.call, refusal.number),
+        }
+        Ok(())
+    }
+
+    fn hexadecimal(&self) -> String {
+        let bytes = self.text.get().iter();
+        bytes.map(|byte| format!("{byte:02x}")).collect()
+    }
+
+    fn difference(&self, case: &Case, subject: &str) -> Difference {
+        let text = self.hexadecimal();
+        let Case { call, operands, .. } = case;
+        let (library, reference) = (&case.library, &case.reference);
+        Difference(format!(
+            "description {text}\ncall        {call:?} {operands:?}\nlibrary     {library:?}\n\
+             reference   {reference:?}\ndifference  {subject}"
+        ))
+    }
+}
+
+impl Case<'_> {
+    fn agrees(&self) -> bool {
+        match (self.library, self.reference) {
+            (Ok(()), Ok(_)) => true,
+            (Err(one), Err(other)) => (one.number, one.place) == (other.number, other.place as u64),
+            _ => false,
+        }
+    }
+}

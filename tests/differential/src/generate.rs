@@ -1,0 +1,352 @@
+//! Descriptions of every kind: sound, at a boundary, damaged, and bytes at random.
+
+use reference::random::Random;
+
+use crate::text::{Plan, READS, Text, WRITES, commands};
+
+#[derive(Clone, Copy, PartialEq, Eq, PartialOrd, Ord, Debug)]
+pub enum Kind {
+    Sound,
+    Boundary,
+    Damaged,
+    Garbage,
+}
+
+/// Some description, mostly a small one: these are where calls are quick.
+pub fn description(random: &mut Random) -> (Kind, Vec<u8>) {
+    match random.below(100) {
+        0..32 => (Kind::Sound, sound(random)),
+        32..48 => (Kind::Sound, pipe(random)),
+        48..62 => (Kind::Boundary, boundary(random)),
+        62..94 => (Kind::Damaged, damaged(random)),
+        _ => (Kind::Garbage, garbage(random)),
+    }
+}
+
+fn sound(random: &mut Random) -> Vec<u8> {
+    let plan = Plan {
+        clouds: random.pick(&[1, 2, 2, 2, 3, 3, 4]),
+        blocks: random.pick(&[1, 2, 3, 3, 4, 4, 5, 5, 6, 7, 9, 12]),
+        edges: random.below(12),
+        pins: random.pick(&[0, 0, 0, 1, 2]),
+        candidates: random.pick(&[8, 16, 32, 64, 64, 256]),
+        highest: random.pick(&[0, 1, 1, 2, 3, 15]),
+        lawless: 40,
+        shuffled: random.one_in(4),
+    };
+    Text::new(random).by(&plan)
+}
+
+/// Service, datum, service, datum: each datum written by the service before it and read by the one
+/// behind it, so that options merge; with a reader more here and there, where they do not.
+fn pipe(random: &mut Random) -> Vec<u8> {
+    let [clouds, length] = random.pick(&[[2, 3], [2, 5], [2, 6], [3, 3], [3, 4], [4, 3]]);
+    let levels: [usize; 2] = random.pick(&[[1, 1], [1, 1], [2, 1], [2, 2], [3, 2]]);
+    let mut level = |from: usize| random.below(levels[from]) as u8;
+    let clouds: Vec<u8> = (0..clouds).map(|_| level(0)).collect();
+    let blocks: Vec<u8> = (0..length).map(|_| level(1)).collect();
+    let more_readers = random.pick(&[0, 0, 1]);
+    let mut text = Text::new(random);
+    for level in clouds {
+        text.cloud(level);
+    }
+    for (block, level) in blocks.into_iter().enumerate() {
+        if block % 2 == 0 {
+            text.service(0, 15);
+        } else {
+            text.datum(level);
+        }
+    }
+    for datum in (1..length as u8).step_by(2) {
+        text.link([WRITES, datum - 1, datum], true);
+        if datum + 1 < length as u8 {
+            text.link([READS, datum + 1, datum], true);
+        }
+    }
+    for _ in 0..more_readers {
+        text.edge(READS, true);
+    }
+    text.tame(81);
+    text.end()
+}
+
+fn boundary(random: &mut Random) -> Vec<u8> {
+    match random.below(8) {
+        0 => without_some(random),
+        1 => many_clouds(random),
+        2 => many_blocks(random),
+        3 => many_edges(random),
+        4 | 5 => high_levels(random),
+        _ => many_candidates(random),
+    }
+}
+
+fn calm_plan(clouds: usize, blocks: usize) -> Plan {
+    Plan {
+        clouds,
+        blocks,
+        edges: 4,
+        pins: 0,
+        candidates: 64,
+        highest: 2,
+        lawless: 1000,
+        shuffled: false,
+    }
+}
+
+/// No cloud, or no block, or neither.
+fn without_some(random: &mut Random) -> Vec<u8> {
+    let [clouds, blocks] = random.pick(&[[0, 0], [0, 2], [1, 0], [8, 0]]);
+    Text::new(random).by(&calm_plan(clouds, blocks))
+}
+
+/// Eight clouds, or one too many.
+fn many_clouds(random: &mut Random) -> Vec<u8> {
+    let plan = calm_plan(random.pick(&[8, 8, 9]), 1 + random.below(3));
+    Text::new(random).by(&plan)
+}
+
+/// Sixteen blocks, or one too many.
+fn many_blocks(random: &mut Random) -> Vec<u8> {
+    let plan = calm_plan(1 + random.below(3), random.pick(&[16, 16, 17]));
+    Text::new(random).by(&plan)
+}
+
+/// Thirty-two edges, or one too many; all services may read and write all data.
+fn many_edges(random: &mut Random) -> Vec<u8> {
+    let edges = random.pick(&[31, 32, 32, 33]);
+    let mut text = Text::new(random);
+    for level in [0, 1] {
+        text.cloud(level);
+    }
+    for _ in 0..8 {
+        text.service(0, 15);
+        text.datum(0);
+    }
+    for _ in 0..edges {
+        text.edge(READS, true);
+    }
+    text.tame(64);
+    text.end()
+}
+
+/// One level, location or clearance is 15 or 16.
+fn high_levels(random: &mut Random) -> Vec<u8> {
+    let mut text = sound(random);
+    let levelled = commands(&text).into_iter().filter(|c| text[c.start] <= 3);
+    let starts: Vec<usize> = levelled.map(|command| command.start).collect();
+    if !starts.is_empty() {
+        let start = random.pick(&starts);
+        let operand = match text[start] {
+            3 => 1 + random.below(2),
+            _ => 1,
+        };
+        text[start + operand] = random.pick(&[15, 16, 17, 255]);
+    }
+    text
+}
+
+/// How many clouds each block may use: products at and around the limit of 65,536.
+const FACTORS: [&[u8]; 10] = [
+    &[2; 16],                        // 65,536
+    &[4; 8],                         // 65,536
+    &[8, 8, 8, 8, 8, 2],             // 65,536
+    &[8, 1, 8, 4, 8, 2, 4, 4],       // 65,536
+    &[3, 3, 3, 7, 7, 7, 7],          // 64,827
+    &[3; 10],                        // 59,049
+    &[3, 3, 3, 3, 3, 3, 3, 3, 2, 5], // 65,610
+    &[5, 5, 5, 5, 5, 3, 7],          // 65,625
+    &[7, 7, 7, 2, 2, 2, 2, 2, 2, 3], // 65,856
+    &[8; 16],                        // 2^48
+];
+
+/// Eight clouds of levels 0 to 7, so that a block of level v may use 8 - v of them.
+fn many_candidates(random: &mut Random) -> Vec<u8> {
+    let mut factors = random.pick(&FACTORS).to_vec();
+    random.shuffle(&mut factors);
+    let fits_nowhere = random.one_in(10);
+    let mut text = Text::new(random);
+    for level in 0..8 {
+        text.cloud(level);
+    }
+    for (block, factor) in factors.into_iter().enumerate() {
+        if block % 3 == 0 {
+            text.service(8 - factor, 15);
+        } else {
+            text.datum(8 - factor);
+        }
+    }
+    if fits_nowhere {
+        text.datum(8);
+    }
+    for way in [READS, WRITES, READS, WRITES, READS, READS] {
+        text.edge(way, false);
+    }
+    text.end()
+}
+
+fn damaged(random: &mut Random) -> Vec<u8> {
+    let mut text = match random.below(8) {
+        0 => boundary(random),
+        _ => sound(random),
+    };
+    for _ in 0..random.pick(&[1, 1, 1, 2, 3]) {
+        damage(random, &mut text);
+    }
+    text
+}
+
+fn damage(random: &mut Random, text: &mut Vec<u8>) {
+    let at = random.below(text.len() + 1);
+    match random.below(10) {
+        0 => text.truncate(at),
+        1 => flip(random, text, at),
+        2 | 3 => overwrite(random, text, at),
+        4 => insert(text, at, &some_bytes(random, 4)),
+        5 => insert_command(random, text),
+        6 => drop(text.drain(at..(at + 1 + random.below(6)).min(text.len()))),
+        7 | 8 => repeat_command(random, text),
+        _ => text.extend(some_bytes(random, 12)),
+    }
+}
+
+fn flip(random: &mut Random, text: &mut [u8], at: usize) {
+    if let Some(byte) = text.get_mut(at) {
+        *byte ^= 1 << random.below(8);
+    }
+}
+
+fn overwrite(random: &mut Random, text: &mut [u8], at: usize) {
+    if let Some(byte) = text.get_mut(at) {
+        *byte = telling_byte(random);
+    }
+}
+
+fn insert(text: &mut Vec<u8>, at: usize, bytes: &[u8]) {
+    text.splice(at..at, bytes.iter().copied());
+}
+
+/// The start of some command, or of what stands behind the last.
+fn some_start(random: &mut Random, text: &[u8]) -> usize {
+    let commands = commands(text);
+    let starts: Vec<usize> = commands.iter().map(|command| command.start).collect();
+    let last = commands.last().map_or(0, |command| command.end);
+    random.pick(&[&starts[..], &[last]].concat())
+}
+
+fn insert_command(random: &mut Random, text: &mut Vec<u8>) {
+    let command = random.below(8) as u8;
+    let width = [1, 10, 6, 7, 3, 3, 3, 2][usize::from(command)];
+    let mut bytes = vec![command];
+    bytes.extend((1..width).map(|_| random.below(4) as u8));
+    insert(text, some_start(random, text), &bytes);
+}
+
+/// A command once more, further down or further up.
+fn repeat_command(random: &mut Random, text: &mut Vec<u8>) {
+    let commands = commands(text);
+    if !commands.is_empty() {
+        let command = commands[random.below(commands.len())].clone();
+        let bytes = text[command].to_vec();
+        insert(text, some_start(random, text), &bytes);
+    }
+}
+
+/// A byte that may mean something where it stands, or any.
+fn telling_byte(random: &mut Random) -> u8 {
+    match random.below(3) {
+        0 => random.byte(),
+        1 => random.pick(&[7, 8, 15, 16, 17, 31, 32, 255]),
+        _ => random.below(7) as u8,
+    }
+}
+
+fn some_bytes(random: &mut Random, most: usize) -> Vec<u8> {
+    let length = 1 + random.below(most);
+    (0..length).map(|_| telling_byte(random)).collect()
+}
+
+fn garbage(random: &mut Random) -> Vec<u8> {
+    let length = match random.below(40) {
+        0 => random.below(70_000),
+        1..8 => random.below(3),
+        _ => random.below(60),
+    };
+    let highest = random.pick(&[2, 7, 7, 16, 256]);
+    (0..length).map(|_| random.below(highest) as u8).collect()
+}
+
+#[cfg(test)]
+mod tests {
+    use super::*;
+    use reference::description::read;
+
+    /// What the reference says of so many texts: how many clouds, blocks, edges and candidates, or
+    /// the number of the refusal.
+    fn seen(make: fn(&mut Random) -> Vec<u8>, times: usize) -> Vec<Result<[u64; 4], u8>> {
+        let mut random = Random::new(1);
+        let mut look = || {
+            let described = read(&make(&mut random)).map_err(|refusal| refusal.number)?;
+            let [clouds, blocks] = [described.clouds.len(), described.blocks.len()];
+            let counts = [clouds, blocks, described.edges.len()].map(|count| count as u64);
+            let [clouds, blocks, edges] = counts;
+            Ok([clouds, blocks, edges, described.candidate_count()])
+        };
+        (0..times).map(|_| look()).collect()
+    }
+
+    #[test]
+    fn one_seed_gives_one_input() {
+        let texts = || {
+            let mut random = Random::new(7);
+            Vec::from_iter((0..50).map(|_| description(&mut random)))
+        };
+        assert_eq!(texts(), texts());
+    }
+
+    #[test]
+    fn sound_texts_break_no_more_than_the_rules() {
+        let seen = seen(sound, 2000);
+        let accepted = seen.iter().filter(|seen| seen.is_ok()).count();
+        assert!(accepted > 1600, "{accepted}");
+        let refused = |seen: &Result<_, u8>| matches!(seen, Err(1..=8 | 12));
+        assert!(!seen.iter().any(refused));
+    }
+
+    #[test]
+    fn pipes_are_accepted() {
+        assert!(seen(pipe, 500).iter().all(Result::is_ok));
+    }
+
+    #[test]
+    fn boundaries_are_met_and_passed() {
+        let clouds = seen(many_clouds, 100);
+        assert!(clouds.contains(&Err(4)));
+        assert!(clouds.iter().flatten().all(|counts| counts[0] == 8));
+        let blocks = seen(many_blocks, 100);
+        assert!(blocks.contains(&Err(4)));
+        assert!(blocks.iter().flatten().all(|counts| counts[1] == 16));
+        let edges = seen(many_edges, 100);
+        assert!(edges.contains(&Err(4)));
+        assert!(edges.iter().flatten().any(|counts| counts[2] == 32));
+        assert!(seen(high_levels, 300).contains(&Err(5)));
+        assert_eq!(seen(without_some, 20), [Err(8); 20]);
+    }
+
+    #[test]
+    fn candidates_are_at_the_limit_and_beyond() {
+        let seen = seen(many_candidates, 300);
+        for exactly in [0, 59_049, 64_827, 65_536] {
+            assert!(seen.iter().flatten().any(|counts| counts[3] == exactly));
+        }
+        assert!(seen.contains(&Err(12)));
+    }
+
+    #[test]
+    fn damage_meets_every_number_of_a_command() {
+        let seen = seen(damaged, 3000);
+        for number in [1, 2, 3, 4, 5, 6, 7] {
+            assert!(seen.contains(&Err(number)), "{number}");
+        }
+    }
+}

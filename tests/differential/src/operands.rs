@@ -1,0 +1,94 @@
+//! Placements, cursors and rooms that a description is asked about.
+
+use reference::description::Description;
+use reference::random::Random;
+use reference::rules::{Placement, Row};
+
+/// A placement: of a row, a candidate, nearly one, or bytes at random.
+pub fn placement(random: &mut Random, described: Option<&Description>, rows: &[Row]) -> Placement {
+    let Some(described) = described else {
+        return loose_placement(random);
+    };
+    if !rows.is_empty() && random.one_in(4) {
+        return random.pick(rows).placement;
+    }
+    match random.below(8) {
+        0 => loose_placement(random),
+        1 => {
+            let mut placement = candidate(random, described);
+            let position = random.below(16);
+            placement[position] = random.pick(&[0, 1, 2, 7, 8, 255]);
+            placement
+        }
+        _ => candidate(random, described),
+    }
+}
+
+fn loose_placement(random: &mut Random) -> Placement {
+    let highest = random.pick(&[2, 3, 9, 256]);
+    let blocks = random.pick(&[1, 3, 5, 16]);
+    let mut placement = [0; 16];
+    placement[..blocks].fill_with(|| random.below(highest) as u8);
+    placement
+}
+
+/// Each block on a cloud that it may use, if there is one.
+fn candidate(random: &mut Random, described: &Description) -> Placement {
+    let mut placement = [0; 16];
+    for (cloud, block) in placement.iter_mut().zip(&described.blocks) {
+        let clouds = 0..described.clouds.len();
+        let open: Vec<usize> = clouds.filter(|&c| described.may_stand(block, c)).collect();
+        if !open.is_empty() {
+            *cloud = random.pick(&open) as u8;
+        }
+    }
+    placement
+}
+
+/// A cursor: the start, a row, close to one, or anything. The start is `None`.
+pub fn cursor(random: &mut Random, rows: &[Row]) -> Option<Row> {
+    let mut row = match rows {
+        [] => Row {
+            cost: random.below(100) as u64,
+            placement: loose_placement(random),
+        },
+        _ => random.pick(rows),
+    };
+    match random.below(12) {
+        0 | 1 => return None,
+        2 => row.cost = row.cost.saturating_sub(1),
+        3 => row.cost += 1,
+        4 => row.placement = loose_placement(random),
+        5 => {
+            let position = random.below(16);
+            row.placement[position] = random.pick(&[0, 1, 7, 8, 255]);
+        }
+        6 => {
+            let any = random.word();
+            row.cost = random.pick(&[0, 1 << 53, u64::MAX, any]);
+        }
+        7 => {
+            row.cost = 0;
+            row.placement = [0; 16];
+        }
+        8 => row = rows.last().copied().unwrap_or(row),
+        _ => {}
+    }
+    Some(row)
+}
+
+/// A length to lend: just what is needed, one less, nothing, more, less, or rarely so much that it
+/// is always enough.
+pub fn room(random: &mut Random, needed: usize, enough: usize) -> usize {
+    if random.one_in(enough) {
+        return enough;
+    }
+    match random.below(8) {
+        0..3 => needed,
+        3 => needed.saturating_sub(1),
+        4 => 0,
+        5 => random.below(needed + 1),
+        6 => needed + 1,
+        _ => needed + random.below(20),
+    }
+}

@@ -1,0 +1,124 @@
+//! What was tried, and how it was answered.
+
+use std::collections::BTreeMap;
+use std::ops::RangeInclusive;
+use std::time::Duration;
+
+use crate::generate::Kind;
+
+#[derive(Clone, Copy, PartialEq, Eq, PartialOrd, Ord, Debug)]
+pub enum Call {
+    Read,
+    Judge,
+    Transfers,
+    Census,
+    Draw,
+    List,
+}
+
+impl Call {
+    const ALL: [Call; 6] = [
+        Call::Read,
+        Call::Judge,
+        Call::Transfers,
+        Call::Census,
+        Call::Draw,
+        Call::List,
+    ];
+
+    /// The numbers that the call can refuse with.
+    fn numbers(self) -> impl Iterator<Item = u8> {
+        let (range, more): (RangeInclusive<u8>, _) = match self {
+            Call::Read | Call::Census | Call::Draw => (1..=12, None),
+            Call::Judge => (1..=15, None),
+            Call::Transfers => (1..=16, None),
+            Call::List => (1..=12, Some(16)),
+        };
+        range.chain(more)
+    }
+}
+
+#[derive(Default)]
+pub struct Tally {
+    kinds: BTreeMap<Kind, u64>,
+    traits: BTreeMap<&'static str, u64>,
+    answers: BTreeMap<(Call, &'static str), u64>,
+    refusals: BTreeMap<(Call, u8), u64>,
+    large: u64,
+    pub calls: u64,
+}
+
+impl Tally {
+    pub fn input(&mut self, kind: Kind) {
+        *self.kinds.entry(kind).or_default() += 1;
+    }
+
+    /// How many descriptions with many candidates there were before this one.
+    pub fn one_more_large(&mut self) -> u64 {
+        self.large += 1;
+        self.large - 1
+    }
+
+    /// Something that accepted descriptions should show now and then.
+    pub fn shown(&mut self, name: &'static str) {
+        *self.traits.entry(name).or_default() += 1;
+    }
+
+    pub fn answered(&mut self, call: Call, answer: &'static str) {
+        self.calls += 1;
+        *self.answers.entry((call, answer)).or_default() += 1;
+    }
+
+    pub fn refused(&mut self, call: Call, number: u8) {
+        self.calls += 1;
+        *self.refusals.entry((call, number)).or_default() += 1;
+    }
+
+    fn refusals_of(&self, call: Call, number: u8) -> u64 {
+        self.refusals.get(&(call, number)).copied().unwrap_or(0)
+    }
+
+    /// The refusals that should have been seen and were not.
+    pub fn missing(&self) -> Vec<String> {
+        let due = Call::ALL
+            .into_iter()
+            .flat_map(|call| call.numbers().map(move |number| (call, number)));
+        due.filter(|&(call, number)| self.refusals_of(call, number) == 0)
+            .map(|(call, number)| format!("{call:?} {number}"))
+            .collect()
+    }
+
+    pub fn print(&self, seed: u64, taken: Duration) {
+        let (calls, seconds) = (self.calls, taken.as_secs_f64());
+        let inputs: u64 = self.kinds.values().sum();
+        let speed = calls as f64 / seconds;
+        println!("seed {seed}: {inputs} inputs, {calls} calls, {seconds:.1} s, {speed:.0} calls/s");
+        println!(
+            "inputs: {}",
+            joined(&self.kinds, |kind| format!("{kind:?}"))
+        );
+        println!("shown: {}", joined(&self.traits, |name| name.to_string()));
+        println!("\n| Call | Answers | Refusals, by number |\n|---|---|---|");
+        for call in Call::ALL {
+            let own = self.answers.iter().filter(|((c, _), _)| *c == call);
+            let answers = own.map(|((_, answer), count)| (*answer, *count)).collect();
+            let answers = joined(&answers, |answer| answer.to_string());
+            let numbers = (1..=16).map(|n| (n, self.refusals_of(call, n)));
+            let refusals = numbers.filter(|(_, count)| *count > 0).collect();
+            let refusals = joined(&refusals, |number: &u8| number.to_string());
+            println!("| {call:?} | {answers} | {refusals} |");
+        }
+        let all = (1..=16).map(|n| (n, Call::ALL.map(|c| self.refusals_of(c, n)).iter().sum()));
+        println!(
+            "| all | | {} |",
+            joined(&all.collect(), |number: &u8| number.to_string())
+        );
+    }
+}
+
+fn joined<K>(counts: &BTreeMap<K, u64>, name: impl Fn(&K) -> String) -> String {
+    let parts = counts
+        .iter()
+        .map(|(key, count)| format!("{}: {count}", name(key)));
+    parts.collect::<Vec<_>>().join(", ")
+}

@@ -1,0 +1,287 @@
+//! A description in the making, command by command.
+
+use std::ops::Range;
+
+use reference::random::Random;
+
+const END: u8 = 0;
+const CLOUD: u8 = 1;
+const DATUM: u8 = 2;
+const SERVICE: u8 = 3;
+pub const READS: u8 = 4;
+pub const WRITES: u8 = 5;
+const PIN: u8 = 6;
+
+/// How many of each thing are to be declared, and of what kind.
+pub struct Plan {
+    pub clouds: usize,
+    pub blocks: usize,
+    pub edges: usize,
+    pub pins: usize,
+    /// Pins are added until there are no more candidates than this.
+    pub candidates: u64,
+    /// The highest level that is used.
+    pub highest: u8,
+    /// Of so many services and edges one may break rules 2, 3 and 4.
+    pub lawless: usize,
+    pub shuffled: bool,
+}
+
+#[derive(Clone, Copy)]
+enum Prices {
+    Free,
+    /// So low that many costs are equal.
+    Low,
+    Extreme,
+    Any,
+}
+
+#[derive(Clone, Copy)]
+struct Block {
+    is_datum: bool,
+    level: u8,
+    clearance: u8,
+    pin: Option<usize>,
+}
+
+pub struct Text<'a> {
+    bytes: Vec<u8>,
+    random: &'a mut Random,
+    prices: Prices,
+    clouds: Vec<u8>,
+    blocks: Vec<Block>,
+    edges: Vec<[u8; 3]>,
+}
+
+impl<'a> Text<'a> {
+    pub fn new(random: &'a mut Random) -> Self {
+        let prices = [Prices::Free, Prices::Low, Prices::Low, Prices::Any];
+        let prices = match random.below(8) {
+            0 => Prices::Extreme,
+            _ => random.pick(&prices),
+        };
+        Text {
+            bytes: Vec::new(),
+            random,
+            prices,
+            clouds: Vec::new(),
+            blocks: Vec::new(),
+            edges: Vec::new(),
+        }
+    }
+
+    /// The bytes of a whole description by the plan.
+    pub fn by(mut self, plan: &Plan) -> Vec<u8> {
+        let block = [DATUM, DATUM, SERVICE];
+        let mut steps = vec![CLOUD; plan.clouds];
+        steps.extend((0..plan.blocks).map(|_| self.random.pick(&block)));
+        steps.extend((0..plan.edges).map(|_| self.random.pick(&[READS, READS, WRITES])));
+        steps.extend(vec![PIN; plan.pins]);
+        if plan.shuffled {
+            self.random.shuffle(&mut steps);
+        }
+        for step in steps {
+            self.step(step, plan);
+        }
+        self.tame(plan.candidates);
+        self.end()
+    }
+
+    /// Declares one thing more, if there is one that may be declared.
+    fn step(&mut self, step: u8, plan: &Plan) {
+        let lawless = self.random.one_in(plan.lawless);
+        let level = self.random.below(usize::from(plan.highest) + 1) as u8;
+        match step {
+            CLOUD => {
+                let level = self.cloud_level(level, plan.highest);
+                self.cloud(level);
+            }
+            DATUM => self.datum(level),
+            SERVICE => {
+                let above = self.random.below(usize::from(plan.highest - level) + 1) as u8;
+                let clearance = if lawless { 0 } else { level + above };
+                self.service(level, clearance);
+            }
+            PIN => self.pin_any(),
+            way => self.edge(way, lawless),
+        }
+    }
+
+    /// Mostly high enough for some block, or there would seldom be a candidate.
+    fn cloud_level(&mut self, level: u8, highest: u8) -> u8 {
+        match self.random.below(3) {
+            0 => level,
+            1 => highest,
+            _ => level.max(self.random.below(usize::from(highest) + 1) as u8),
+        }
+    }
+
+    fn number(&mut self) -> [u8; 2] {
+        let number = match self.prices {
+            Prices::Free => 0,
+            Prices::Low => self.random.below(4) as u16,
+            Prices::Extreme => self.random.pick(&[0, 65_535, 65_535]),
+            Prices::Any => self.random.word() as u16,
+        };
+        number.to_be_bytes()
+    }
+
+    pub fn cloud(&mut self, level: u8) {
+        self.clouds.push(level);
+        self.bytes.extend([CLOUD, level]);
+        for _ in 0..4 {
+            let rate = self.number();
+            self.bytes.extend(rate);
+        }
+    }
+
+    pub fn datum(&mut self, level: u8) {
+        self.block(true, level, 0);
+        self.bytes.extend([DATUM, level]);
+        for _ in 0..2 {
+            let number = self.number();
+            self.bytes.extend(number);
+        }
+    }
+
+    pub fn service(&mut self, location: u8, clearance: u8) {
+        self.block(false, location, clearance);
+        self.bytes.extend([SERVICE, location, clearance]);
+        for _ in 0..2 {
+            let number = self.number();
+            self.bytes.extend(number);
+        }
+    }
+
+    fn block(&mut self, is_datum: bool, level: u8, clearance: u8) {
+        self.blocks.push(Block {
+            is_datum,
+            level,
+            clearance,
+            pin: None,
+        });
+    }
+
+    /// The number of some datum or service.
+    fn some_block(&mut self, is_datum: bool) -> Option<usize> {
+        let numbers = 0..self.blocks.len();
+        let fitting: Vec<usize> = numbers
+            .filter(|&b| self.blocks[b].is_datum == is_datum)
+            .collect();
+        (!fitting.is_empty()).then(|| self.random.pick(&fitting))
+    }
+
+    /// An edge that is not there yet; after some tries there is none.
+    pub fn edge(&mut self, way: u8, lawless: bool) {
+        for _ in 0..8 {
+            let (Some(service), Some(datum)) = (self.some_block(false), self.some_block(true))
+            else {
+                return;
+            };
+            if self.link([way, service as u8, datum as u8], lawless) {
+                return;
+            }
+        }
+    }
+
+    /// Adds the edge unless it may not be there, and says whether it did.
+    pub fn link(&mut self, edge: [u8; 3], lawless: bool) -> bool {
+        let takes = self.takes(edge) && (lawless || self.is_lawful(edge));
+        if takes {
+            self.edges.push(edge);
+            self.bytes.extend(edge);
+        }
+        takes
+    }
+
+    fn takes(&self, edge: [u8; 3]) -> bool {
+        let [way, _, datum] = edge;
+        let clashes =
+            |e: &[u8; 3]| *e == edge || (way == WRITES && e[0] == WRITES && e[2] == datum);
+        !self.edges.iter().any(clashes)
+    }
+
+    /// Rules 3 and 4.
+    fn is_lawful(&self, [way, service, datum]: [u8; 3]) -> bool {
+        let service = self.blocks[usize::from(service)];
+        let datum = self.blocks[usize::from(datum)];
+        match way {
+            READS => service.clearance >= datum.level,
+            _ => service.level <= datum.level,
+        }
+    }
+
+    fn pin_any(&mut self) {
+        let open: Vec<usize> = self.unpinned().collect();
+        if !open.is_empty() && !self.clouds.is_empty() {
+            let block = self.random.pick(&open);
+            let cloud = self.random.below(self.clouds.len());
+            self.pin(block, cloud);
+        }
+    }
+
+    fn unpinned(&self) -> impl Iterator<Item = usize> {
+        (0..self.blocks.len()).filter(|&block| self.blocks[block].pin.is_none())
+    }
+
+    fn pin(&mut self, block: usize, cloud: usize) {
+        self.blocks[block].pin = Some(cloud);
+        self.bytes.extend([PIN, block as u8, cloud as u8]);
+    }
+
+    /// The clouds that a block may stand on.
+    fn choices(&self, block: usize) -> Vec<usize> {
+        let Block { level, pin, .. } = self.blocks[block];
+        let clouds = 0..self.clouds.len();
+        clouds
+            .filter(|&cloud| self.clouds[cloud] >= level && pin.is_none_or(|pin| pin == cloud))
+            .collect()
+    }
+
+    fn candidates(&self) -> u64 {
+        let blocks = 0..self.blocks.len();
+        blocks
+            .map(|block| self.choices(block).len() as u64)
+            .product()
+    }
+
+    /// Pins blocks to clouds that they may stand on, until there are few candidates.
+    pub fn tame(&mut self, most: u64) {
+        let mut open: Vec<usize> = self.unpinned().collect();
+        self.random.shuffle(&mut open);
+        for block in open {
+            if self.candidates() <= most {
+                return;
+            }
+            let choices = self.choices(block);
+            if choices.len() > 1 {
+                let cloud = self.random.pick(&choices);
+                self.pin(block, cloud);
+            }
+        }
+    }
+
+    pub fn end(mut self) -> Vec<u8> {
+        self.bytes.push(END);
+        self.bytes
+    }
+}
+
+/// Where the commands of a text are, as far as there are any.
+pub fn commands(text: &[u8]) -> Vec<Range<usize>> {
+    let mut found = Vec::new();
+    let mut at = 0;
+    while let Some(&command) = text.get(at) {
+        let width = match command {
+            CLOUD => 10,
+            DATUM => 6,
+            SERVICE => 7,
+            READS | WRITES | PIN => 3,
+            _ => break,
+        };
+        let end = (at + width).min(text.len());
+        found.push(at..end);
+        at = end;
+    }
+    found
+}

@@ -1,0 +1,76 @@
+//! The wrapper's own types beside the reference.
+
+use reference::calls::Census;
+use reference::description::{Description, Refusal};
+use reference::rules::Row;
+
+/// A draw walks over all candidates, so of long lists only so many rows are drawn.
+const DRAWN: usize = 12;
+
+/// The part of the wrapper that says something else than the reference, if there is one.
+pub fn difference(
+    text: &[u8],
+    described: Result<&Description, Refusal>,
+    rows: &[Row],
+) -> Option<&'static str> {
+    match (panel::Description::read(text), described) {
+        (Ok(wrapped), Ok(described)) => first_difference(&wrapped, described, rows),
+        (Err(one), Err(other)) => {
+            let same = (one.number, one.place) == (other.number, other.place as u64);
+            (!same).then_some("refusal")
+        }
+        _ => Some("acceptance"),
+    }
+}
+
+fn first_difference(
+    wrapped: &panel::Description,
+    described: &Description,
+    rows: &[Row],
+) -> Option<&'static str> {
+    let first = &rows[..rows.len().min(DRAWN)];
+    let drawn: Vec<panel::Row> = wrapped.rows().take(DRAWN).collect();
+    let same_moves = |row| same_transfers(wrapped, described, row);
+    let same_length = |row: &panel::Row| row.clouds().len() == described.blocks.len();
+    let parts = [
+        ("counts", same_counts(wrapped, described)),
+        (
+            "census",
+            wrapped.census() == counted(described.census(rows)),
+        ),
+        ("list", same_rows(&wrapped.list(), rows)),
+        ("rows", same_rows(&drawn, first)),
+        ("clouds", drawn.iter().all(same_length)),
+        ("transfers", first.iter().all(same_moves)),
+    ];
+    let (name, _) = parts.into_iter().find(|(_, same)| !same)?;
+    Some(name)
+}
+
+fn same_counts(wrapped: &panel::Description, described: &Description) -> bool {
+    wrapped.clouds() == described.clouds.len()
+        && wrapped.blocks() == described.blocks.len()
+        && wrapped.edges() == described.edges.len()
+}
+
+fn counted(census: Census) -> panel::Census {
+    panel::Census {
+        candidates: census.candidates,
+        breaking16: census.breaking_16,
+        breaking17_only: census.breaking_17_only,
+        secure: census.secure,
+        options: census.options,
+    }
+}
+
+fn same_rows(found: &[panel::Row], due: &[Row]) -> bool {
+    let found = found.iter().map(|row| (row.cost(), row.placement().0));
+    found.eq(due.iter().map(|row| (row.cost, row.placement)))
+}
+
+fn same_transfers(wrapped: &panel::Description, described: &Description, row: &Row) -> bool {
+    let found = wrapped.transfers(&row.placement.into());
+    let due = described.transfers(&row.placement, usize::MAX);
+    let due = due.map(|bytes| bytes.into_iter().map(panel::Transfer::from).collect());
+    found.ok() == due.ok()
+}

@@ -1,0 +1,98 @@
+#!/usr/bin/env python3
+"""Compares three ways to a list, on every description among the stored cases.
+
+The program listoptions lists in one walk; callcases draws row by row; the brute-force
+lister knows neither.  The first must print what the last says, and from the start and
+from each row a draw must answer the next row of the list, and behind the last `finished`.
+The programs are those in target/bin.
+
+    lists.py
+
+A long list is not drawn whole: a draw takes a walk of its own.  Of more than MOST_DRAWS
+rows, draws begin at so many, from the first to the last; and the brute-force lister lists
+descriptions of up to QUICK candidates and the examples.
+"""
+
+import subprocess
+import sys
+
+from bruteforce import (ROOT, Refused, Tape, count_candidates, cursor_bytes, digits,
+                        listing, read, require, stored_bytes, text_of, with_length)
+
+PROGRAMS = ROOT / "target" / "bin"
+OPERANDS = {"R": 0, "J": 16, "C": 0, "D": 25, "T": 18}   # bytes behind the description
+MOST_DRAWS = 100
+QUICK = 300
+
+
+def stored_texts():
+    """Each description once: of the cases, and the examples."""
+    tape = Tape(stored_bytes(ROOT / "crates" / "callcases" / "stdin"))
+    texts = {}
+    while not tape.ended():
+        letter = chr(tape.number(1))
+        texts[tape.take(tape.number(2))] = None
+        tape.take(OPERANDS[letter])
+    for name in ("interview", "second"):
+        texts[stored_bytes(ROOT / "examples" / f"{name}.bin")] = None
+    return list(texts)
+
+
+def printed(program, content):
+    done = subprocess.run([PROGRAMS / program], input=content, capture_output=True, check=True)
+    require(not done.stderr, f"{program}: {done.stderr.decode(errors='replace')}")
+    return done.stdout.decode("ascii").splitlines()
+
+
+def rows_in(lines, blocks):
+    """The rows that the lines show, as (cost, sixteen clouds)."""
+    split = [line.split(" ") for line in lines]
+    return [(int(cost), bytes(map(int, clouds.ljust(16, "0")))) for cost, clouds in split
+            if len(clouds) == blocks]
+
+
+def check_lines(text, lines):
+    """What was printed is what the brute-force lister says, as far as it is asked."""
+    try:
+        described = read(text)
+    except Refused as refusal:
+        require(lines == [str(refusal)], f"{text.hex()}: {lines}, and not {refusal}")
+        return None
+    if count_candidates(described) <= QUICK:
+        require(lines == listing(text), f"{text.hex()}: another list")
+    require(lines[-1] == f"options {len(lines) - 1}", f"{text.hex()}: {lines[-1]}")
+    found = rows_in(lines[:-1], len(described.blocks))
+    require(len(found) == len(lines) - 1, f"{text.hex()}: a line that is no row")
+    return found
+
+
+def draws(text, found):
+    """Cases of draws, each with its answer: from the start, and from rows along the list."""
+    ends = found + [None]
+    step = max(1, len(found) // MOST_DRAWS)
+    for at in sorted({*range(0, len(ends), step), len(found)}):
+        cursor = cursor_bytes(0, 0, bytes(16)) if at == 0 else cursor_bytes(1, *found[at - 1])
+        row = ends[at]
+        answer = "finished" if row is None else f"row {row[0]} {digits(row[1])}"
+        yield with_length(b"D", text) + cursor, answer
+
+
+def main():
+    texts = stored_texts()
+    cases, expected, lists = [], [], 0
+    for text in texts:
+        found = check_lines(text, printed("listoptions", text))
+        if found is not None:
+            lists += 1
+            for case, answer in draws(text, found):
+                cases.append(case)
+                expected.append(answer)
+    answers = printed("callcases", b"".join(cases))
+    require(len(answers) == len(expected), "callcases: not one line for each case")
+    for case, answer, due in zip(cases, answers, expected):
+        require(answer == due, f"{case.hex()}: {answer}, and not {due}")
+    print(f"{len(texts)} descriptions, {lists} lists, {len(cases)} draws along them: the same")
+
+
+if __name__ == "__main__":
+    sys.exit(main())

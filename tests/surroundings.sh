@@ -1,0 +1,121 @@
+#!/bin/sh
+# The programs where input or output is not as it should be: nothing there, closed, full, a folder, ten megabytes of random bytes.
+# Each must end by itself within a few seconds and without a crash, with the answer or the error line that is written down here.
+#
+#   tests/surroundings.sh [FOLDER]        the programs are in FOLDER, or else in target/bin
+set -eu
+cd "$(dirname "$0")/.."
+bin=${1:-target/bin}
+work=target/surroundings
+seconds=5
+count=0
+
+for program in listoptions callcases; do
+    test -x "$bin/$program" || { echo "surroundings: there is no $bin/$program; rt check $program" >&2; exit 1; }
+done
+mkdir -p "$work"
+
+# Runs a program with the standard input and output that the caller gives it; what it says on standard error is kept.
+run() {
+    status=0
+    timeout "$seconds" "$bin/$1" 2>"$work/err" || status=$?
+}
+
+fail() {
+    echo "surroundings: $1" >&2
+    exit 1
+}
+
+# settle TITLE ANSWER ERROR: the run ended by itself, the file of answers holds ANSWER and nothing else, and standard error is one
+# line that begins with ERROR and goes on; or is empty, where ERROR is.
+settle() {
+    test "$status" -lt 124 || fail "$1: status $status (124 is out of time, from 128 on a crash)"
+    printf '%s' "$2" | cmp -s - "$work/out" || fail "$1: another answer, in $work/out"
+    if [ -z "$3" ]; then
+        test ! -s "$work/err" || fail "$1: something on standard error, in $work/err"
+    else
+        test "$(wc -l <"$work/err")" -eq 1 || fail "$1: not one error line, in $work/err"
+        grep -q "^$3." "$work/err" || fail "$1: another error line, in $work/err"
+    fi
+    count=$((count + 1))
+}
+
+# Ten megabytes of random bytes: alone, behind a whole description, behind whole cases, and cut into cases.
+python3 - "$work" <<'PYTHON'
+import random, sys
+from pathlib import Path
+work, examples = Path(sys.argv[1]), Path("examples")
+noise = random.Random(20_010_911).randbytes(10_000_000)
+most = 65_535
+parts = [noise[at:at + most] for at in range(0, len(noise), most)]
+(work / "noise").write_bytes(noise)
+(work / "behind").write_bytes((examples / "interview.bin").read_bytes() + noise)
+(work / "behind-cases").write_bytes((examples / "interview.cases").read_bytes() + noise)
+(work / "cases").write_bytes(b"".join(b"R" + len(part).to_bytes(2, "big") + part for part in parts))
+PYTHON
+: >"$work/empty"
+
+# A description that has no bytes is refused.
+refused='refused 1 0
+'
+run listoptions </dev/null >"$work/out"
+settle 'listoptions at the end of input' "$refused" ''
+run listoptions <"$work/empty" >"$work/out"
+settle 'listoptions on an empty file' "$refused" ''
+# What cannot be read is not taken for an empty description.
+run listoptions <&- >"$work/out"
+settle 'listoptions on closed input' '' 'listoptions: standard input: '
+run listoptions <"$work" >"$work/out"
+settle 'listoptions on a folder' '' 'listoptions: standard input: '
+
+# Input without any case gives no line.
+run callcases </dev/null >"$work/out"
+settle 'callcases at the end of input' '' ''
+run callcases <"$work/empty" >"$work/out"
+settle 'callcases on an empty file' '' ''
+run callcases <&- >"$work/out"
+settle 'callcases on closed input' '' 'callcases: standard input: '
+run callcases <"$work" >"$work/out"
+settle 'callcases on a folder' '' 'callcases: standard input: '
+
+# What cannot be written is said on standard error, once.
+: >"$work/out"
+run listoptions <examples/interview.bin >&-
+settle 'listoptions to closed output' '' 'listoptions: standard output: '
+run listoptions <examples/interview.bin >/dev/full
+settle 'listoptions to a full device' '' 'listoptions: standard output: '
+run listoptions <"$work/empty" >&-
+settle 'listoptions, refusing, to closed output' '' 'listoptions: standard output: '
+run listoptions <"$work/empty" >/dev/full
+settle 'listoptions, refusing, to a full device' '' 'listoptions: standard output: '
+run listoptions <&- >&-
+settle 'listoptions with all closed' '' 'listoptions: standard '
+
+run callcases <examples/interview.cases >&-
+settle 'callcases to closed output' '' 'callcases: standard output: '
+run callcases <examples/interview.cases >/dev/full
+settle 'callcases to a full device' '' 'callcases: standard output: '
+run callcases <&- >&-
+settle 'callcases with all closed' '' 'callcases: standard '
+
+# The first bytes settle the answer: of the random ones, the first is no command and no letter.
+run listoptions <"$work/noise" >"$work/out"
+settle 'listoptions on random bytes' 'refused 2 0
+' ''
+run listoptions <"$work/behind" >"$work/out"
+settle 'listoptions on random bytes behind a description' 'refused 3 65
+' ''
+run callcases <"$work/noise" >"$work/out"
+settle 'callcases on random bytes' 'bad case
+' ''
+run callcases <"$work/behind-cases" >"$work/out"
+answers=$(cat examples/interview.answers)
+settle 'callcases on random bytes behind cases' "$answers
+bad case
+" ''
+run callcases <"$work/cases" >"$work/out"
+answers=$(python3 tests/bruteforce.py answer <"$work/cases")
+settle 'callcases on random descriptions' "$answers
+" ''
+
+echo "surroundings: $count runs ended as written down"
