@@ -14,7 +14,8 @@ use Rattle.rules.specs.Soundness.{read, candidates, count}
 use Rattle.rules.specs.Placements.{secure}
 use Rattle.rules.specs.Cost.{cost}
 use Rattle.rules.proofs.Candidates.{count-is-length}
-use Rattle.walk.specs.Packing.{pack}
+use Rattle.walk.specs.Packing.{pack, digits}
+use Rattle.walk.proofs.Digits.{digits-pack}
 use Rattle.walk.specs.Tables.{weight}
 use Rattle.walk.specs.Tables.{stands as standsBy}
 use Rattle.walk.specs.Visiting.{isSecure}
@@ -35,7 +36,7 @@ use Rattle.sequences.specs.Results.{ok}
 use Rattle.sequences.proofs.Agreeing.{keep-agree, keep-map, map-agree}
 use Rattle.sequences.proofs.Members.{keep-members}
 use Rattle.sequences.proofs.Parts.{keep-both, two-parts}
-use Rattle.sequences.proofs.Sorting.{sort-map}
+use Rattle.sequences.proofs.Sorting.{sort-map, sort-members}
 use Rattle.sequences.proofs.Tests.{both-pass}
 use Rattle.enumeration.specs.Unsorted.{unsorted}
 use Rattle.enumeration.specs.WholeList.{rowWords, listed, needed}
@@ -110,6 +111,14 @@ module _ (s : List ℕ) (d : Description) (bytes : Bytes s) (accepted : read s �
       let (p, m, e) = Memᴰ·of-map (rowOf d) standing a in
       let (q, k, f) = Memᴰ·of-map (padded d) (keep isRow met') (subst (List·Memᴰ p) (sym standing-met) m) in
       (q, keep-members isRow met' q .0 k .0, ap (rowOf d) f ∙ e)
+
+  -- NOTHING IS LOST IN PACKING: the clouds that a row's second word packs, with zeros behind them, are the row's sixteen bytes
+  pub words-row : (r : Row) → List·Memᴰ r (rows d) → digits n (rowWords d r .1) ++ replicate (16 - n) 0 ≡ r .placement
+  unfolding rows
+  words-row r m =
+      let (q, k, e) = met-of r (sort-members earlier (map (rowOf d) standing) r .0 m) in
+      subst (λ x. digits n (rowWords d x .1) ++ replicate (16 - n) 0 ≡ x .placement) e
+      (ap (λ l. digits n (pack l) ++ replicate (16 - n) 0) (blocks-of q k) ∙ ap (λ l. l ++ replicate (16 - n) 0) (digits-pack n q (j .sized q k) (j .low q k)))
 
   -- words order rows as the rows' order does
   ordered-rows : (x y : Row) → List·Memᴰ x (map (rowOf d) standing) → List·Memᴰ y (map (rowOf d) standing) → lower (rowWords d x) (rowWords d y) ≡ earlier x y

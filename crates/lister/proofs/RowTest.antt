@@ -30,23 +30,14 @@ use Rattle.walk.specs.Tables.{cheaperOn as cheaperBy}
 use Rattle.walk.specs.Tables.{stands as standsBy}
 use Rattle.walk.specs.Tables.{ownTerm}
 use Rattle.lister.specs.Building.{onlyOf, ofPair, padded}
+use Rattle.lister.proofs.Indexing.{getD-padded}
 use Rattle.sequences.specs.Lists.{any, keep, below, before}
 use Rattle.sequences.proofs.Members.{keep-members, below-members}
 use Rattle.sequences.proofs.Tests.{not-failed}
 
--- zeros behind a list change no element
-zeros-at : (m k : ℕ) → _≡_ {A = ℕ} (getD (replicate m 0) k 0) 0
-zeros-at zero k = refl
-zeros-at (suc m) zero = refl
-zeros-at (suc m) (suc k) = zeros-at m k
-
-behind-at : (l : List ℕ) (m k : ℕ) → getD (l ++ replicate m 0) k 0 ≡ getD l k 0
-behind-at [] m k = zeros-at m k
-behind-at (x ∷ l) m zero = refl
-behind-at (x ∷ l) m (suc k) = behind-at l m k
-
+-- zeros behind a placement change no cloud of it
 pub padded-at : (d : Description) (q : List ℕ) (i : ℕ) → getD (padded d q) i 0 ≡ getD q i 0
-padded-at d q i = behind-at q (16 - length (d .blocks)) i
+padded-at d q i = getD-padded q (16 - length (d .blocks)) i
 
 -- of one writer and one reader, which are blocks, the numbers of the two; otherwise a number that is no block
 paired : (writers readers : List Edge) (q p : List ℕ) (b : ℕ) → ((i : ℕ) → getD p i 0 ≡ getD q i 0)

@@ -45,50 +45,29 @@ walk-at t = and 9 walk-kinds.ps (is 9 walk-kinds.ps μ-walk t) walk.Pre
 abbrev walk-below : ℕ → In 9 walk-kinds.ps
 walk-below t = and 9 walk-kinds.ps (falls 9 walk-kinds.ps _<_ μ-walk t) walk.Pre
 
+-- what the functions called ask and give: those that are proved already, and of the two the one called, where its measure falls
+abbrev in-turns : ℕ → turn-lts.Claims
+in-turns t = (step-reads.Asked, step-reads.Learnt, pass-reads.Asked, pass-reads.Learnt, walk-below t, walk.Post)
+
+abbrev in-walks : ℕ → walk-lts.Claims
+in-walks t = (visit-reads.Asked, visit-reads.Learnt, wide-reads.Asked, wide-reads.Learnt, turn-below t, turn.Post)
+
 -- what stays the same all the way down, at a turn
-abbrev in-turn : (t : ℕ) → turn-lts.Start (step-reads.Asked, step-reads.Learnt, pass-reads.Asked, pass-reads.Learnt, walk-below t, walk.Post) (turn-at t) turn.Post → Setting
+abbrev in-turn : (t : ℕ) → turn-lts.Start (in-turns t) (turn-at t) turn.Post → Setting
 in-turn t s = setting (s .args .own .now) (s .args .terms .now) (s .args .ends .now) (s .args .starts .now) (s .args .masks .now) (s .args .pairs .now) (s .args .clouds) (s .args .blocks) (taskIn (s .args .task .now))
 
-turn-sub-at : (t : ℕ) → turn-lts.Need-sub-at (
-  step-reads.Asked,
-  step-reads.Learnt,
-  pass-reads.Asked,
-  pass-reads.Learnt,
-  walk-below t,
-  walk.Post,
-) (turn-at t) turn.Post
+turn-sub-at : (t : ℕ) → turn-lts.Need-sub-at (in-turns t) (turn-at t) turn.Post
 turn-sub-at t c = omega (arith, c .before .pre .1 .1 .0 .sized)
 
-turn-shr-if1 : (t : ℕ) → turn-lts.Need-shr-if1 (
-  step-reads.Asked,
-  step-reads.Learnt,
-  pass-reads.Asked,
-  pass-reads.Learnt,
-  walk-below t,
-  walk.Post,
-) (turn-at t) turn.Post
+turn-shr-if1 : (t : ℕ) → turn-lts.Need-shr-if1 (in-turns t) (turn-at t) turn.Post
 turn-shr-if1 t c = omega (arith, c .before .pre .1 .1 .0 .numbers)
 
-turn-returns : (t : ℕ) → turn-lts.Need-returns (
-  step-reads.Asked,
-  step-reads.Learnt,
-  pass-reads.Asked,
-  pass-reads.Learnt,
-  walk-below t,
-  walk.Post,
-) (turn-at t) turn.Post
+turn-returns : (t : ℕ) → turn-lts.Need-returns (in-turns t) (turn-at t) turn.Post
 turn-returns t c =
     let s = c .before .before in
     (s .pre .1 .0, shut (in-turn t s) (s .args .left - 1) (s .args .blocks - s .args .left) (s .args .place) (s .args .c) (rw (s .pre .1 .1 .1 .1 .0) at (c .if1 .taken)) (seenIn (s .args .seen .now), s .args .kept .now))
 
-turn-step-requires : (t : ℕ) → turn-lts.Need-step-requires (
-  step-reads.Asked,
-  step-reads.Learnt,
-  pass-reads.Asked,
-  pass-reads.Learnt,
-  walk-below t,
-  walk.Post,
-) (turn-at t) turn.Post
+turn-step-requires : (t : ℕ) → turn-lts.Need-step-requires (in-turns t) (turn-at t) turn.Post
 turn-step-requires t c κs =
     let s = c .before .before in
     let u = s .pre .1 .1 .0 in
@@ -98,7 +77,7 @@ turn-step-requires t c κs =
     ((omega (arith, u .numbers), u .low), (ready-edges T at (s .args .blocks) (omega (arith, u .sized)) (u .ready), (carried-edges T at (s .args .place) (s .args .weight) (u .carried), (loaded .1, loaded .2))))
 
 -- below the turn
-under : (t : ℕ) (c : turn-lts.After-step (step-reads.Asked, step-reads.Learnt, pass-reads.Asked, pass-reads.Learnt, walk-below t, walk.Post) (turn-at t) turn.Post)
+under : (t : ℕ) (c : turn-lts.After-step (in-turns t) (turn-at t) turn.Post)
     → let s = c .before .before .before in
     Under (in-turn t s) (s .args .blocks - (s .args .left - 1)) (s .args .left - 1) (c .step .result) (s .args .place * 8 + s .args .c)
 under t c =
@@ -107,7 +86,7 @@ under t c =
     under-next (in-turn t s) (s .args .left) (s .args .place) (s .args .c) (s .args .weight) (p .0) (s .pre .1 .1 .0) (p .1) (c .step .result) (c .step .ensures)
 
 -- a turn has done what was done below it
-turned : (t : ℕ) (c : turn-lts.After-step (step-reads.Asked, step-reads.Learnt, pass-reads.Asked, pass-reads.Learnt, walk-below t, walk.Post) (turn-at t) turn.Post) (r : Sight)
+turned : (t : ℕ) (c : turn-lts.After-step (in-turns t) (turn-at t) turn.Post) (r : Sight)
     → let s = c .before .before .before in
     WalkedBelow (in-turn t s) (seenIn (s .args .seen .now), s .args .kept .now) (s .args .blocks - (s .args .left - 1)) (s .args .left - 1) (s .args .place * 8 + s .args .c) r
     → Turned (in-turn t s) (seenIn (s .args .seen .now), s .args .kept .now) (s .args .blocks - s .args .left) (s .args .left - 1) (s .args .place) (s .args .c) r
@@ -117,40 +96,19 @@ turned t c r =
     open-walked (in-turn t s) (s .args .left) (s .args .place) (s .args .c) (s .args .weight) (p .0) (s .pre .1 .1 .0) (p .1) (seenIn (s .args .seen .now), s .args .kept .now) r
     (rw (s .pre .1 .1 .1 .1 .0) at (c .before .if1 .left))
 
-turn-mul-next : (t : ℕ) → turn-lts.Need-mul-next (
-  step-reads.Asked,
-  step-reads.Learnt,
-  pass-reads.Asked,
-  pass-reads.Learnt,
-  walk-below t,
-  walk.Post,
-) (turn-at t) turn.Post
+turn-mul-next : (t : ℕ) → turn-lts.Need-mul-next (in-turns t) (turn-at t) turn.Post
 turn-mul-next t c =
     let s = c .before .before .before in
     let u = s .pre .1 .1 .0 in
     omega (arith, place-small (s .args .blocks - s .args .left) (s .args .place) (omega (arith, u .sized, u .ready .few)) (u .low))
 
-turn-add-next : (t : ℕ) → turn-lts.Need-add-next (
-  step-reads.Asked,
-  step-reads.Learnt,
-  pass-reads.Asked,
-  pass-reads.Learnt,
-  walk-below t,
-  walk.Post,
-) (turn-at t) turn.Post
+turn-add-next : (t : ℕ) → turn-lts.Need-add-next (in-turns t) (turn-at t) turn.Post
 turn-add-next t c =
     let s = c .before .before .before in
     let u = s .pre .1 .1 .0 in
     omega (arith, place-small (s .args .blocks - s .args .left) (s .args .place) (omega (arith, u .sized, u .ready .few)) (u .low), u .numbers)
 
-turn-pass-or-visit-requires : (t : ℕ) → turn-lts.Need-pass-or-visit-requires (
-  step-reads.Asked,
-  step-reads.Learnt,
-  pass-reads.Asked,
-  pass-reads.Learnt,
-  walk-below t,
-  walk.Post,
-) (turn-at t) turn.Post
+turn-pass-or-visit-requires : (t : ℕ) → turn-lts.Need-pass-or-visit-requires (in-turns t) (turn-at t) turn.Post
 turn-pass-or-visit-requires t c κs =
     let s = c .before .before .before .before .before .before in
     let u = under t (c .before .before .before) in
@@ -162,24 +120,10 @@ turn-pass-or-visit-requires t c κs =
       ),
     )
 
-turn-same-length : (t : ℕ) → turn-lts.Need-same-length (
-  step-reads.Asked,
-  step-reads.Learnt,
-  pass-reads.Asked,
-  pass-reads.Learnt,
-  walk-below t,
-  walk.Post,
-) (turn-at t) turn.Post
+turn-same-length : (t : ℕ) → turn-lts.Need-same-length (in-turns t) (turn-at t) turn.Post
 turn-same-length t c = search needs
 
-turn-returns-2 : (t : ℕ) → turn-lts.Need-returns-2 (
-  step-reads.Asked,
-  step-reads.Learnt,
-  pass-reads.Asked,
-  pass-reads.Learnt,
-  walk-below t,
-  walk.Post,
-) (turn-at t) turn.Post
+turn-returns-2 : (t : ℕ) → turn-lts.Need-returns-2 (in-turns t) (turn-at t) turn.Post
 turn-returns-2 t c =
     let s = c .before .before .before .before .before .before .before .before .before in
     let v = c .before .before .pass-or-visit in (
@@ -189,46 +133,18 @@ turn-returns-2 t c =
           (under t (c .before .before .before .before .before .before)) (λ i. (v .ensures .1 .0 i, v .ensures .1 .1 i))),
     )
 
-turn-sub-walk : (t : ℕ) → turn-lts.Need-sub-walk (
-  step-reads.Asked,
-  step-reads.Learnt,
-  pass-reads.Asked,
-  pass-reads.Learnt,
-  walk-below t,
-  walk.Post,
-) (turn-at t) turn.Post
+turn-sub-walk : (t : ℕ) → turn-lts.Need-sub-walk (in-turns t) (turn-at t) turn.Post
 turn-sub-walk t c = search needs
 
-turn-walk-requires : (t : ℕ) → turn-lts.Need-walk-requires (
-  step-reads.Asked,
-  step-reads.Learnt,
-  pass-reads.Asked,
-  pass-reads.Learnt,
-  walk-below t,
-  walk.Post,
-) (turn-at t) turn.Post
+turn-walk-requires : (t : ℕ) → turn-lts.Need-walk-requires (in-turns t) (turn-at t) turn.Post
 turn-walk-requires t c κs =
     let s = c .before .before .before .before .before .before in
     (omega (arith, s .pre .0, s .pre .1 .1 .1 .0 .0), (s .pre .1 .0, (under t (c .before .before .before), s .pre .1 .1 .1 .0 .2)))
 
-turn-same-length-2 : (t : ℕ) → turn-lts.Need-same-length-2 (
-  step-reads.Asked,
-  step-reads.Learnt,
-  pass-reads.Asked,
-  pass-reads.Learnt,
-  walk-below t,
-  walk.Post,
-) (turn-at t) turn.Post
+turn-same-length-2 : (t : ℕ) → turn-lts.Need-same-length-2 (in-turns t) (turn-at t) turn.Post
 turn-same-length-2 t c = search needs
 
-turn-returns-3 : (t : ℕ) → turn-lts.Need-returns-3 (
-  step-reads.Asked,
-  step-reads.Learnt,
-  pass-reads.Asked,
-  pass-reads.Learnt,
-  walk-below t,
-  walk.Post,
-) (turn-at t) turn.Post
+turn-returns-3 : (t : ℕ) → turn-lts.Need-returns-3 (in-turns t) (turn-at t) turn.Post
 turn-returns-3 t c = let w = c .before .before .walk in (w .ensures .0, turned t (c .before .before .before .before .before .before) _ (w .ensures .1))
 
 abbrev walk-Inv-loop : walk-lts.InvT-loop
@@ -243,17 +159,10 @@ abbrev walk-μ-loop : walk-lts.MeasureT-loop
 walk-μ-loop own terms ends starts masks pairs task clouds blocks left weight place seen₀ kept₀ at mask lo hi c₀ seen kept c = clouds - c
 
 -- the same in the walk
-abbrev in-walk : (t : ℕ) → walk-lts.Start (visit-reads.Asked, visit-reads.Learnt, wide-reads.Asked, wide-reads.Learnt, turn-below t, turn.Post) (walk-at t) walk.Post walk-Inv-loop walk-μ-loop → Setting
+abbrev in-walk : (t : ℕ) → walk-lts.Start (in-walks t) (walk-at t) walk.Post walk-Inv-loop walk-μ-loop → Setting
 in-walk t s = setting (s .args .own .now) (s .args .terms .now) (s .args .ends .now) (s .args .starts .now) (s .args .masks .now) (s .args .pairs .now) (s .args .clouds) (s .args .blocks) (taskIn (s .args .task .now))
 
-walk-visit-requires : (t : ℕ) → walk-lts.Need-visit-requires (
-  visit-reads.Asked,
-  visit-reads.Learnt,
-  wide-reads.Asked,
-  wide-reads.Learnt,
-  turn-below t,
-  turn.Post,
-) (walk-at t) walk.Post walk-Inv-loop walk-μ-loop
+walk-visit-requires : (t : ℕ) → walk-lts.Need-visit-requires (in-walks t) (walk-at t) walk.Post walk-Inv-loop walk-μ-loop
 walk-visit-requires t c κs =
     let s = c .before .before .before .before in
     let u = s .pre .1 .1 .0 in
@@ -265,24 +174,10 @@ walk-visit-requires t c κs =
       ),
     )
 
-walk-same-length : (t : ℕ) → walk-lts.Need-same-length (
-  visit-reads.Asked,
-  visit-reads.Learnt,
-  wide-reads.Asked,
-  wide-reads.Learnt,
-  turn-below t,
-  turn.Post,
-) (walk-at t) walk.Post walk-Inv-loop walk-μ-loop
+walk-same-length : (t : ℕ) → walk-lts.Need-same-length (in-walks t) (walk-at t) walk.Post walk-Inv-loop walk-μ-loop
 walk-same-length t c = search needs
 
-walk-returns : (t : ℕ) → walk-lts.Need-returns (
-  visit-reads.Asked,
-  visit-reads.Learnt,
-  wide-reads.Asked,
-  wide-reads.Learnt,
-  turn-below t,
-  turn.Post,
-) (walk-at t) walk.Post walk-Inv-loop walk-μ-loop
+walk-returns : (t : ℕ) → walk-lts.Need-returns (in-walks t) (walk-at t) walk.Post walk-Inv-loop walk-μ-loop
 walk-returns t c =
     let s = c .before .before .before .before .before .before .before in
     let v = c .before .before .visit in (
@@ -291,94 +186,31 @@ walk-returns t c =
           (λ i. (v .ensures .1 .0 i, v .ensures .1 .1 i)),
     )
 
-walk-sub-at : (t : ℕ) → walk-lts.Need-sub-at (
-  visit-reads.Asked,
-  visit-reads.Learnt,
-  wide-reads.Asked,
-  wide-reads.Learnt,
-  turn-below t,
-  turn.Post,
-) (walk-at t) walk.Post walk-Inv-loop walk-μ-loop
+walk-sub-at : (t : ℕ) → walk-lts.Need-sub-at (in-walks t) (walk-at t) walk.Post walk-Inv-loop walk-μ-loop
 walk-sub-at t c = omega (arith, c .before .before .pre .1 .1 .0 .sized)
 
-walk-element-copy-out-wide : (t : ℕ) → walk-lts.Need-element-copy-out-wide (
-  visit-reads.Asked,
-  visit-reads.Learnt,
-  wide-reads.Asked,
-  wide-reads.Learnt,
-  turn-below t,
-  turn.Post,
-) (walk-at t) walk.Post walk-Inv-loop walk-μ-loop
+walk-element-copy-out-wide : (t : ℕ) → walk-lts.Need-element-copy-out-wide (in-walks t) (walk-at t) walk.Post walk-Inv-loop walk-μ-loop
 walk-element-copy-out-wide t c = let u = c .before .before .pre .1 .1 .0 in omega (arith, u .sized, u .ready .few)
 
-walk-wide-requires : (t : ℕ) → walk-lts.Need-wide-requires (
-  visit-reads.Asked,
-  visit-reads.Learnt,
-  wide-reads.Asked,
-  wide-reads.Learnt,
-  turn-below t,
-  turn.Post,
-) (walk-at t) walk.Post walk-Inv-loop walk-μ-loop
+walk-wide-requires : (t : ℕ) → walk-lts.Need-wide-requires (in-walks t) (walk-at t) walk.Post walk-Inv-loop walk-μ-loop
 walk-wide-requires t c κs = search needs
 
-walk-element-copy-out-wide-2 : (t : ℕ) → walk-lts.Need-element-copy-out-wide-2 (
-  visit-reads.Asked,
-  visit-reads.Learnt,
-  wide-reads.Asked,
-  wide-reads.Learnt,
-  turn-below t,
-  turn.Post,
-) (walk-at t) walk.Post walk-Inv-loop walk-μ-loop
+walk-element-copy-out-wide-2 : (t : ℕ) → walk-lts.Need-element-copy-out-wide-2 (in-walks t) (walk-at t) walk.Post walk-Inv-loop walk-μ-loop
 walk-element-copy-out-wide-2 t c = let u = c .before .before .before .before .pre .1 .1 .0 in omega (arith, u .sized, u .ready .few)
 
-walk-wide-requires-2 : (t : ℕ) → walk-lts.Need-wide-requires-2 (
-  visit-reads.Asked,
-  visit-reads.Learnt,
-  wide-reads.Asked,
-  wide-reads.Learnt,
-  turn-below t,
-  turn.Post,
-) (walk-at t) walk.Post walk-Inv-loop walk-μ-loop
+walk-wide-requires-2 : (t : ℕ) → walk-lts.Need-wide-requires-2 (in-walks t) (walk-at t) walk.Post walk-Inv-loop walk-μ-loop
 walk-wide-requires-2 t c κs = search needs
 
-walk-add-wide : (t : ℕ) → walk-lts.Need-add-wide (
-  visit-reads.Asked,
-  visit-reads.Learnt,
-  wide-reads.Asked,
-  wide-reads.Learnt,
-  turn-below t,
-  turn.Post,
-) (walk-at t) walk.Post walk-Inv-loop walk-μ-loop
+walk-add-wide : (t : ℕ) → walk-lts.Need-add-wide (in-walks t) (walk-at t) walk.Post walk-Inv-loop walk-μ-loop
 walk-add-wide t c = let u = c .before .before .before .before .before .before .pre .1 .1 .0 in omega (arith, u .sized, u .ready .few)
 
-walk-element-copy-out-wide-3 : (t : ℕ) → walk-lts.Need-element-copy-out-wide-3 (
-  visit-reads.Asked,
-  visit-reads.Learnt,
-  wide-reads.Asked,
-  wide-reads.Learnt,
-  turn-below t,
-  turn.Post,
-) (walk-at t) walk.Post walk-Inv-loop walk-μ-loop
+walk-element-copy-out-wide-3 : (t : ℕ) → walk-lts.Need-element-copy-out-wide-3 (in-walks t) (walk-at t) walk.Post walk-Inv-loop walk-μ-loop
 walk-element-copy-out-wide-3 t c = let u = c .before .before .before .before .before .before .pre .1 .1 .0 in omega (arith, u .sized, u .ready .few)
 
-walk-wide-requires-3 : (t : ℕ) → walk-lts.Need-wide-requires-3 (
-  visit-reads.Asked,
-  visit-reads.Learnt,
-  wide-reads.Asked,
-  wide-reads.Learnt,
-  turn-below t,
-  turn.Post,
-) (walk-at t) walk.Post walk-Inv-loop walk-μ-loop
+walk-wide-requires-3 : (t : ℕ) → walk-lts.Need-wide-requires-3 (in-walks t) (walk-at t) walk.Post walk-Inv-loop walk-μ-loop
 walk-wide-requires-3 t c κs = search needs
 
-walk-loop-holds : (t : ℕ) → walk-lts.Need-loop-holds (
-  visit-reads.Asked,
-  visit-reads.Learnt,
-  wide-reads.Asked,
-  wide-reads.Learnt,
-  turn-below t,
-  turn.Post,
-) (walk-at t) walk.Post walk-Inv-loop walk-μ-loop
+walk-loop-holds : (t : ℕ) → walk-lts.Need-loop-holds (in-walks t) (walk-at t) walk.Post walk-Inv-loop walk-μ-loop
 walk-loop-holds t c =
     let s = c .before .before .before .before .before .before .before .before in (
       omega arith,
@@ -388,14 +220,7 @@ walk-loop-holds t c =
       s .pre .1 .0,
     )
 
-walk-turn-requires : (t : ℕ) → walk-lts.Need-turn-requires (
-  visit-reads.Asked,
-  visit-reads.Learnt,
-  wide-reads.Asked,
-  wide-reads.Learnt,
-  turn-below t,
-  turn.Post,
-) (walk-at t) walk.Post walk-Inv-loop walk-μ-loop
+walk-turn-requires : (t : ℕ) → walk-lts.Need-turn-requires (in-walks t) (walk-at t) walk.Post walk-Inv-loop walk-μ-loop
 walk-turn-requires t c κs =
     let s = c .before .before .before .before .before .before .before .before .before .before .before .before in
     let l = c .before .before .before .loop in
@@ -413,34 +238,13 @@ walk-turn-requires t c κs =
       ),
     )
 
-walk-add-c : (t : ℕ) → walk-lts.Need-add-c (
-  visit-reads.Asked,
-  visit-reads.Learnt,
-  wide-reads.Asked,
-  wide-reads.Learnt,
-  turn-below t,
-  turn.Post,
-) (walk-at t) walk.Post walk-Inv-loop walk-μ-loop
+walk-add-c : (t : ℕ) → walk-lts.Need-add-c (in-walks t) (walk-at t) walk.Post walk-Inv-loop walk-μ-loop
 walk-add-c t c = search needs
 
-walk-loop-less : (t : ℕ) → walk-lts.Need-loop-less (
-  visit-reads.Asked,
-  visit-reads.Learnt,
-  wide-reads.Asked,
-  wide-reads.Learnt,
-  turn-below t,
-  turn.Post,
-) (walk-at t) walk.Post walk-Inv-loop walk-μ-loop
+walk-loop-less : (t : ℕ) → walk-lts.Need-loop-less (in-walks t) (walk-at t) walk.Post walk-Inv-loop walk-μ-loop
 walk-loop-less t c = search needs
 
-walk-loop-again : (t : ℕ) → walk-lts.Need-loop-again (
-  visit-reads.Asked,
-  visit-reads.Learnt,
-  wide-reads.Asked,
-  wide-reads.Learnt,
-  turn-below t,
-  turn.Post,
-) (walk-at t) walk.Post walk-Inv-loop walk-μ-loop
+walk-loop-again : (t : ℕ) → walk-lts.Need-loop-again (in-walks t) (walk-at t) walk.Post walk-Inv-loop walk-μ-loop
 walk-loop-again t c =
     let s = c .before .before .before .before .before .before .before .before .before .before .before .before .before .before .before in
     let l = c .before .before .before .before .before .before .loop in (
@@ -451,38 +255,17 @@ walk-loop-again t c =
       c .before .before .turn .ensures .0,
     )
 
-walk-same-length-2 : (t : ℕ) → walk-lts.Need-same-length-2 (
-  visit-reads.Asked,
-  visit-reads.Learnt,
-  wide-reads.Asked,
-  wide-reads.Learnt,
-  turn-below t,
-  turn.Post,
-) (walk-at t) walk.Post walk-Inv-loop walk-μ-loop
+walk-same-length-2 : (t : ℕ) → walk-lts.Need-same-length-2 (in-walks t) (walk-at t) walk.Post walk-Inv-loop walk-μ-loop
 walk-same-length-2 t c = c .before .loop .inv .3
 
-walk-returns-2 : (t : ℕ) → walk-lts.Need-returns-2 (
-  visit-reads.Asked,
-  visit-reads.Learnt,
-  wide-reads.Asked,
-  wide-reads.Learnt,
-  turn-below t,
-  turn.Post,
-) (walk-at t) walk.Post walk-Inv-loop walk-μ-loop
+walk-returns-2 : (t : ℕ) → walk-lts.Need-returns-2 (in-walks t) (walk-at t) walk.Post walk-Inv-loop walk-μ-loop
 walk-returns-2 t c =
     let s = c .before .before .before .before .before .before .before .before .before .before in
     let l = c .before .loop in
     (l .inv .4, loop-walked (in-walk t s) (s .args .left) (l .c) (digits (s .args .blocks - s .args .left) (s .args .place)) (seenIn (s .args .seen .now), s .args .kept .now) (seenIn (l .seen), l .kept) (omega arith) (omega arith) (l .inv .1) (omega (arith, l .inv .2)))
 
 pub +turn+walk-spec : {M : Type 1} → statement M
-+turn+walk-spec = close μ-turn μ-walk (λ t. turn-lts.spec (
-  step-reads.Asked,
-  step-reads.Learnt,
-  pass-reads.Asked,
-  pass-reads.Learnt,
-  walk-below t,
-  walk.Post,
-)
++turn+walk-spec = close μ-turn μ-walk (λ t. turn-lts.spec (in-turns t)
     (turn-at t)
     turn.Post
     (turn-sub-at t)
@@ -499,7 +282,7 @@ pub +turn+walk-spec : {M : Type 1} → statement M
     (turn-same-length-2 t)
     (turn-returns-3 t))
     λ t. walk-lts.spec
-    (visit-reads.Asked, visit-reads.Learnt, wide-reads.Asked, wide-reads.Learnt, turn-below t, turn.Post)
+    (in-walks t)
     (walk-at t)
     walk.Post
     walk-Inv-loop
