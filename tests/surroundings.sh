@@ -1,13 +1,13 @@
 #!/bin/sh
 # The programs where input or output is not as it should be: nothing there, closed, full, a folder, ten megabytes of random bytes.
-# Each must end by itself within a few seconds and without a crash, with the answer or the error line that is written down here.
+# Each must end by itself (20 seconds are for a machine that is busy) and without a crash, with the answer or the error line that is written down here.
 #
 #   tests/surroundings.sh [FOLDER]        the programs are in FOLDER, or else in target/bin
 set -eu
 cd "$(dirname "$0")/.."
 bin=${1:-target/bin}
 work=target/surroundings
-seconds=5
+seconds=20
 count=0
 
 for program in listoptions callcases; do
