@@ -5,6 +5,7 @@ use crate::buffer::Buffer;
 use crate::output::put;
 use crate::output::put_clouds;
 use crate::output::put_number;
+use costs::answers::Transferred;
 use description::workflow::Refusal;
 use lister::Answer;
 use lister::Counted;
@@ -12,8 +13,7 @@ use lister::Drawn;
 use lister::Figures;
 use lister::Row;
 use rules::answers::Acceptance;
-use rules::answers::Transferred;
-use rules::answers::Verdict;
+use security::answers::Verdict;
 
 pub fn put_acceptance(out: &mut Buffer, at: usize, a: Acceptance) -> usize
     requires { ⌜ at + words ≤ size ⌝ }

@@ -5,7 +5,7 @@ use mathlib.Core.List.{List, [], _∷_, _++_, map}
 use mathlib.Core.Option.{Option, none, some}
 use lib.ListN.{take, replicate}
 use Rattle.description.specs.Format.{Description}
-use Rattle.rules.specs.Soundness.{read}
+use Rattle.security.specs.Soundness.{read}
 use Rattle.lister.specs.Calls.{drawCall}
 use Rattle.lister.specs.ItemThree.{atStart, movedBy, results}
 use Rattle.lister.specs.Rows.{rows}

@@ -8,7 +8,7 @@ use lib.Dec.{leb}
 use lib.ListN.{length, drop, replicate}
 use borrow.Author.Tests.{le-leb, lt-leb, leb-true, leb-false}
 use Rattle.description.specs.Format.{Description}
-use Rattle.rules.specs.Soundness.{read}
+use Rattle.security.specs.Soundness.{read}
 use Rattle.lister.specs.Rows.{rows}
 use Rattle.sorting.specs.Rows.{roomFor}
 use Rattle.sequences.specs.Results.{Result, ok, refused, andThen}

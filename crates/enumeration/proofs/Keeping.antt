@@ -9,12 +9,12 @@ use mathlib.Core.List.{List, [], _∷_, _++_, map, foldl, append-assoc, append-n
 use lib.ListN.{length, take, drop, length-append, take-append-drop, length-drop}
 use lib.Seq.{length-take-le, take-at, drop-at, drop-drop}
 use borrow.Author.Tests.{ltb-true, ltb-false}
-use Rattle.walk.specs.declared.visit.Seen.{Seen}
-use Rattle.walk.specs.declared.visit.Task.{Task}
-use Rattle.walk.specs.Visiting.{isSecure, see, withRow, keepRow}
+use Rattle.visiting.specs.declared.visit.Seen.{Seen}
+use Rattle.visiting.specs.declared.visit.Task.{Task}
+use Rattle.visiting.specs.Visiting.{isSecure, see, withRow, keepRow}
 use Rattle.walk.specs.Walking.{Sight}
-use Rattle.walk.proofs.Seeing.{kept-broken, kept-no-row, kept-row, row-behind}
-use Rattle.walk.proofs.Tallies.{one, see-rows}
+use Rattle.visiting.proofs.Seeing.{kept-broken, kept-no-row, kept-row, row-behind}
+use Rattle.visiting.proofs.Tallies.{one, see-rows}
 use Rattle.sorting.specs.Rows.{flat}
 use Rattle.sequences.specs.Lists.{keep}
 

@@ -10,19 +10,19 @@ use lib.ListN.{length, take, drop, replicate, length-map}
 use lib.Seq.{take-at, drop-at}
 use Rattle.description.specs.Bytes.{Bytes}
 use Rattle.description.specs.Format.{Description}
-use Rattle.rules.specs.Soundness.{read, candidates, count}
-use Rattle.rules.specs.Placements.{secure}
-use Rattle.rules.specs.Cost.{cost}
-use Rattle.rules.proofs.Candidates.{count-is-length}
-use Rattle.walk.specs.Packing.{pack, digits}
-use Rattle.walk.proofs.Digits.{digits-pack}
-use Rattle.walk.specs.Tables.{weight}
-use Rattle.walk.specs.Tables.{stands as standsBy}
-use Rattle.walk.specs.Visiting.{isSecure}
+use Rattle.security.specs.Soundness.{read, candidates, count}
+use Rattle.security.specs.Placements.{secure}
+use Rattle.costs.specs.Cost.{cost}
+use Rattle.security.proofs.Candidates.{count-is-length}
+use Rattle.packing.specs.Packing.{pack, digits}
+use Rattle.packing.proofs.Digits.{digits-pack}
+use Rattle.visiting.specs.Tables.{weight}
+use Rattle.visiting.specs.Tables.{stands as standsBy}
+use Rattle.visiting.specs.Visiting.{isSecure}
 use Rattle.walk.specs.Walking.{keepAll}
-use Rattle.walk.specs.declared.visit.Task.{Task}
+use Rattle.visiting.specs.declared.visit.Task.{Task}
 use Rattle.lister.specs.declared.Row.{Row}
-use Rattle.lister.specs.Building.{tablesOf, padded}
+use Rattle.tables.specs.Building.{tablesOf, padded}
 use Rattle.lister.specs.Joining.{Joined, met}
 use Rattle.lister.specs.Rows.{securePlacements, rowOf, earlier, stands, rows}
 use Rattle.lister.specs.Seeing.{nothingSeen}

@@ -5,8 +5,8 @@ use mathlib.Core.List.{List, _++_, map}
 use lib.Dec.{leb}
 use lib.ListN.{length, take, drop, replicate}
 use Rattle.description.specs.Format.{Description}
-use Rattle.rules.specs.Soundness.{read}
-use Rattle.walk.specs.Packing.{pack}
+use Rattle.security.specs.Soundness.{read}
+use Rattle.packing.specs.Packing.{pack}
 use Rattle.sorting.specs.Rows.{flat}
 use Rattle.lister.specs.declared.Row.{Row}
 use Rattle.lister.specs.Rows.{rows}

@@ -7,7 +7,7 @@ ghost use lib.Dec.{leb};
 ghost use lib.ListN.{length, drop, replicate};
 ghost use Rattle.sequences.specs.Results.{ok};
 ghost use Rattle.description.specs.Meaning.{describes};
-ghost use Rattle.rules.specs.Soundness.{read};
+ghost use Rattle.security.specs.Soundness.{read};
 ghost use Rattle.lister.specs.Rows.{rows as rowsOf};
 ghost use Rattle.enumeration.specs.WholeList.{listed, needed, listAnswer, listCall, rowsAfter, scratchAfter};
 ghost use Rattle.enumeration.specs.Unsorted.{unsorted};
@@ -16,8 +16,8 @@ use description::workflow::Refusal;
 use description::workflow::Workflow;
 use description::workflow::block_count;
 use rules::acceptance::accept;
-use rules::soundness::candidate_count;
-use walk::visit::Task;
+use security::soundness::candidate_count;
+use visiting::visit::Task;
 
 // How many rows a list has, and how many blocks each of its placements.
 pub struct Extent {

@@ -6,11 +6,11 @@ use mathlib.Core.List.{List, map}
 use lib.Dec.{eqb}
 use lib.ListN.{length, length-map}
 use Rattle.description.specs.Format.{Description}
-use Rattle.rules.specs.Soundness.{read, candidates}
-use Rattle.rules.specs.Placements.{judge, broken16, broken17}
-use Rattle.rules.proofs.Accepted.{read-wellFormed}
-use Rattle.rules.proofs.Candidates.{candidates-placed}
-use Rattle.rules.proofs.Judging.{judge-number}
+use Rattle.security.specs.Soundness.{read, candidates}
+use Rattle.security.specs.Placements.{judge, broken16, broken17}
+use Rattle.security.proofs.Accepted.{read-wellFormed}
+use Rattle.security.proofs.Candidates.{candidates-placed}
+use Rattle.security.proofs.Judging.{judge-number}
 use Rattle.rules.proofs.Options.{sameOption-equivalence}
 use Rattle.lister.specs.Rows.{securePlacements, census, earlier, rowOf, stands, rows}
 use Rattle.lister.proofs.Drawing.{secure-once}

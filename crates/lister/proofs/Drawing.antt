@@ -9,9 +9,9 @@ use mathlib.Core.List.{List, _++_, map, foldl, List·Memᴰ, Memᴰ·map, Memᴰ
 use mathlib.Core.Option.{none, some}
 use lib.ListN.{take, replicate}
 use Rattle.description.specs.Format.{Description}
-use Rattle.rules.specs.Soundness.{candidates}
-use Rattle.rules.specs.Placements.{secure}
-use Rattle.rules.proofs.Candidates.{candidates-once}
+use Rattle.security.specs.Soundness.{candidates}
+use Rattle.security.specs.Placements.{secure}
+use Rattle.security.proofs.Candidates.{candidates-once}
 use Rattle.lister.specs.declared.Row.{Row}
 use Rattle.lister.specs.declared.Cursor.{Cursor}
 use Rattle.lister.specs.Rows.{securePlacements, earlier, rowOf, stands, rows, later, draw}

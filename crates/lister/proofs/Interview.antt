@@ -3,13 +3,13 @@ use Prim.Native.Nat.{ℕ}
 use mathlib.Core.Path.{_≡_, refl, ap}
 use Rattle.description.specs.Format.{Description, decode}
 use Rattle.rules.specs.Inputs.{flat}
-use Rattle.rules.specs.Soundness.{covers, breaks2, breaks3, breaks4, mayStand, choicesOf, candidates, count, sound, read}
-use Rattle.rules.specs.Placements.{moves, exposes, breaks16, breaks17, badPosition, judge}
-use Rattle.rules.specs.Transfers.{transfers}
-use Rattle.rules.specs.Cost.{gigabytes, cost}
+use Rattle.security.specs.Soundness.{covers, breaks2, breaks3, breaks4, mayStand, choicesOf, candidates, count, sound, read}
+use Rattle.security.specs.Placements.{moves, exposes, breaks16, breaks17, badPosition, judge}
+use Rattle.costs.specs.Transfers.{transfers}
+use Rattle.costs.specs.Cost.{gigabytes, cost}
 use Rattle.rules.specs.Options.{option, sameOption}
 use Rattle.rules.specs.Calls.{readCall, judgeCall}
-use Rattle.rules.proofs.Candidates.{count-is-length}
+use Rattle.security.proofs.Candidates.{count-is-length}
 use Rattle.lister.specs.Rows.{securePlacements, census, stands, rows, draw}
 use Rattle.lister.specs.Calls.{censusCall, drawCall}
 use Rattle.lister.specs.Interview.{Interview, candidatesOf}

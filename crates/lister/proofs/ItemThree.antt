@@ -7,10 +7,10 @@ use mathlib.Core.List.{List, [], _∷_, _++_, map, head?, head-eq-of-cons-eq, Li
 use mathlib.Core.Option.{none, some, Option·some-ne-none}
 use lib.ListN.{take, replicate}
 use Rattle.description.specs.Format.{Description}
-use Rattle.rules.specs.Soundness.{read}
-use Rattle.rules.specs.Cost.{cost}
-use Rattle.rules.proofs.Accepted.{read-wellFormed}
-use Rattle.rules.proofs.Candidates.{candidates-secure}
+use Rattle.security.specs.Soundness.{read}
+use Rattle.costs.specs.Cost.{cost}
+use Rattle.security.proofs.Accepted.{read-wellFormed}
+use Rattle.security.proofs.Candidates.{candidates-secure}
 use Rattle.rules.proofs.Options.{sameOption-equivalence}
 use Rattle.lister.specs.declared.Row.{Row}
 use Rattle.lister.specs.declared.Cursor.{Cursor}

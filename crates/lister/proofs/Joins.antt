@@ -10,36 +10,36 @@ use lib.ListN.{length, getD, replicate, length-map}
 use Rattle.description.specs.Bytes.{Bytes}
 use Rattle.description.specs.Format.{Description}
 use Rattle.description.specs.Invariants.{WellFormed, Bounded}
-use Rattle.rules.specs.Soundness.{read, candidates, count}
-use Rattle.rules.specs.Placements.{secure}
-use Rattle.rules.specs.Terms.{blockTerm, weightOf}
-use Rattle.rules.specs.Cost.{cost}
-use Rattle.rules.proofs.Accepted.{accepted, read-wellFormed, read-bounded}
-use Rattle.rules.proofs.CostBound.{bounded-cost}
-use Rattle.rules.proofs.Weights.{weight-secure, weight-cost, weight-16}
-use Rattle.rules.proofs.Candidates.{count-is-length}
-use Rattle.walk.specs.Packing.{pack, digits}
-use Rattle.walk.specs.Tables.{weight}
-use Rattle.walk.specs.Tables.{stands as standsBy}
-use Rattle.walk.specs.Visiting.{isSecure, breaks16}
-use Rattle.walk.specs.Visiting.{earlier as earlierWalk}
-use Rattle.walk.proofs.Finding.{Kept}
+use Rattle.security.specs.Soundness.{read, candidates, count}
+use Rattle.security.specs.Placements.{secure}
+use Rattle.costs.specs.Terms.{blockTerm, weightOf}
+use Rattle.costs.specs.Cost.{cost}
+use Rattle.security.proofs.Accepted.{accepted, read-wellFormed, read-bounded}
+use Rattle.costs.proofs.CostBound.{bounded-cost}
+use Rattle.costs.proofs.Weights.{weight-secure, weight-cost, weight-16}
+use Rattle.security.proofs.Candidates.{count-is-length}
+use Rattle.packing.specs.Packing.{pack, digits}
+use Rattle.visiting.specs.Tables.{weight}
+use Rattle.visiting.specs.Tables.{stands as standsBy}
+use Rattle.visiting.specs.Visiting.{isSecure, breaks16}
+use Rattle.visiting.specs.Visiting.{earlier as earlierWalk}
+use Rattle.visiting.proofs.Finding.{Kept}
 use Rattle.walk.specs.Walking.{seeAt, seeAll, keepAt, keepAll}
-use Rattle.walk.specs.declared.visit.Seen.{Seen}
-use Rattle.walk.specs.declared.visit.Task.{Task}
-use Rattle.walk.proofs.Digits.{pack-before, pack-small, digits-pack}
+use Rattle.visiting.specs.declared.visit.Seen.{Seen}
+use Rattle.visiting.specs.declared.visit.Task.{Task}
+use Rattle.packing.proofs.Digits.{pack-before, pack-small, digits-pack}
 use Rattle.lister.specs.declared.Row.{Row}
 use Rattle.lister.specs.declared.Cursor.{Cursor}
 use Rattle.lister.specs.declared.Figures.{Figures}
 use Rattle.lister.specs.Answers.{figuresOf}
-use Rattle.lister.specs.Building.{tablesOf, ownOf, pairsOf, pairAt, padded}
+use Rattle.tables.specs.Building.{tablesOf, ownOf, pairsOf, pairAt, padded}
 use Rattle.lister.specs.Joining.{Joined, met}
 use Rattle.lister.specs.Rows.{Census, census, securePlacements, earlier, rowOf, later, draw}
 use Rattle.lister.specs.Seeing.{nothingSeen, TaskOf}
-use Rattle.lister.proofs.Built.{weights, allowed-is, placements-are, placement-there}
+use Rattle.tables.proofs.Built.{weights, allowed-is, placements-are, placement-there}
 use Rattle.lister.proofs.Counting.{census-sum}
-use Rattle.lister.proofs.Filling.{getD-table}
-use Rattle.lister.proofs.RowTest.{RowTables, tests-same}
+use Rattle.tables.proofs.Filling.{getD-table}
+use Rattle.tables.proofs.RowTest.{RowTables, tests-same}
 use Rattle.lister.proofs.Standing.{stands-by-storage}
 use Rattle.lister.proofs.Walked.{sees-16, sees-17, sees-secure, sees-options, draws}
 use Rattle.sequences.specs.Results.{ok}

@@ -6,11 +6,11 @@ use mathlib.Core.Logic.{_↔_, _⊎_}
 use mathlib.Core.Bool.{true, true≢false}
 use mathlib.Core.List.{List, List·Memᴰ}
 use Rattle.description.specs.Format.{Description}
-use Rattle.rules.specs.Soundness.{read, candidates}
-use Rattle.rules.specs.Placements.{secure}
+use Rattle.security.specs.Soundness.{read, candidates}
+use Rattle.security.specs.Placements.{secure}
 use Rattle.rules.specs.Options.{sameOption}
 use Rattle.rules.specs.Representatives.{standsLocally, standsByStorage, SecureCandidate, First}
-use Rattle.rules.proofs.Accepted.{read-wellFormed}
+use Rattle.security.proofs.Accepted.{read-wellFormed}
 use Rattle.rules.proofs.Options.{sameOption-equivalence}
 use Rattle.rules.proofs.Representatives.{local-is-global}
 use Rattle.rules.proofs.Storage.{storage-is-local}

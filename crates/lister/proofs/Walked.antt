@@ -9,22 +9,22 @@ use mathlib.Core.Option.{Option, none, some}
 use lib.ListN.{length, length-map}
 use borrow.Author.Tests.{not-true}
 use Rattle.description.specs.Format.{Description}
-use Rattle.rules.specs.Soundness.{candidates}
-use Rattle.rules.specs.Placements.{broken16, broken17, secure}
-use Rattle.rules.specs.Cost.{cost}
-use Rattle.walk.specs.Packing.{pack}
-use Rattle.walk.specs.Tables.{Tables, weight}
-use Rattle.walk.specs.Tables.{stands as standsBy}
-use Rattle.walk.specs.Visiting.{isSecure, breaks16, see}
-use Rattle.walk.specs.Visiting.{earlier as walkEarlier}
+use Rattle.security.specs.Soundness.{candidates}
+use Rattle.security.specs.Placements.{broken16, broken17, secure}
+use Rattle.costs.specs.Cost.{cost}
+use Rattle.packing.specs.Packing.{pack}
+use Rattle.visiting.specs.Tables.{Tables, weight}
+use Rattle.visiting.specs.Tables.{stands as standsBy}
+use Rattle.visiting.specs.Visiting.{isSecure, breaks16, see}
+use Rattle.visiting.specs.Visiting.{earlier as walkEarlier}
 use Rattle.walk.specs.Walking.{seeAll}
-use Rattle.walk.specs.declared.visit.Seen.{Seen}
-use Rattle.walk.specs.declared.visit.Task.{Task}
-use Rattle.walk.proofs.Tallies.{seen-16, seen-17, seen-secure, seen-rows}
-use Rattle.walk.proofs.Finding.{Fits, Kept, kept-all}
+use Rattle.visiting.specs.declared.visit.Seen.{Seen}
+use Rattle.visiting.specs.declared.visit.Task.{Task}
+use Rattle.visiting.proofs.Tallies.{seen-16, seen-17, seen-secure, seen-rows}
+use Rattle.visiting.proofs.Finding.{Fits, Kept, kept-all}
 use Rattle.lister.specs.declared.Row.{Row}
 use Rattle.lister.specs.declared.Cursor.{Cursor}
-use Rattle.lister.specs.Building.{padded}
+use Rattle.tables.specs.Building.{padded}
 use Rattle.lister.specs.Joining.{Joined, met}
 use Rattle.lister.specs.Rows.{census, securePlacements, earlier, rowOf, rows, stands, later, draw}
 use Rattle.lister.proofs.Counting.{options-number, rows-length}

@@ -7,8 +7,8 @@ use mathlib.Core.Option.{none}
 use lib.ListN.{length}
 use Rattle.description.specs.Format.{Description, decode}
 use Rattle.rules.specs.Inputs.{cloud, datum, end, flat, place}
-use Rattle.rules.specs.Soundness.{read, candidates}
-use Rattle.rules.specs.Cost.{gigabytes}
+use Rattle.security.specs.Soundness.{read, candidates}
+use Rattle.costs.specs.Cost.{gigabytes}
 use Rattle.rules.specs.Options.{sameOption}
 use Rattle.rules.specs.Calls.{Counts, readCall, judgeCall}
 use Rattle.lister.specs.declared.Row.{Row}

@@ -7,8 +7,8 @@ use mathlib.Core.List.{List, _++_, map, List·Memᴰ}
 use mathlib.Core.Option.{Option, none, some}
 use lib.ListN.{length, take, replicate}
 use Rattle.description.specs.Format.{Description}
-use Rattle.rules.specs.Placements.{judge}
-use Rattle.rules.specs.Cost.{cost}
+use Rattle.security.specs.Placements.{judge}
+use Rattle.costs.specs.Cost.{cost}
 use Rattle.rules.specs.Options.{sameOption}
 use Rattle.lister.specs.declared.Row.{Row}
 use Rattle.lister.specs.declared.Cursor.{Cursor}

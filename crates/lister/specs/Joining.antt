@@ -6,13 +6,13 @@ use mathlib.Core.Bool.{true, false}
 use mathlib.Core.List.{List, map, List·Memᴰ}
 use lib.ListN.{length, getD}
 use Rattle.description.specs.Format.{Description}
-use Rattle.rules.specs.Soundness.{candidates}
-use Rattle.rules.specs.Placements.{broken16, secure}
-use Rattle.rules.specs.Cost.{cost}
-use Rattle.walk.specs.Tables.{Tables, placements, weight}
-use Rattle.walk.specs.Tables.{stands as standsBy}
-use Rattle.walk.specs.Visiting.{isSecure, breaks16}
-use Rattle.lister.specs.Building.{padded}
+use Rattle.security.specs.Soundness.{candidates}
+use Rattle.security.specs.Placements.{broken16, secure}
+use Rattle.costs.specs.Cost.{cost}
+use Rattle.visiting.specs.Tables.{Tables, placements, weight}
+use Rattle.visiting.specs.Tables.{stands as standsBy}
+use Rattle.visiting.specs.Visiting.{isSecure, breaks16}
+use Rattle.tables.specs.Building.{padded}
 use Rattle.lister.specs.Rows.{stands}
 
 -- the placements of the declared blocks, as the walk over the tables meets them

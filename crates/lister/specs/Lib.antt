@@ -1,5 +1,4 @@
 pub mod Answers
-pub mod Building
 pub mod Calls
 pub mod Interview
 pub mod ItemThree

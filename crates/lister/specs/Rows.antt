@@ -5,9 +5,9 @@ use mathlib.Core.List.{List, _∷_, map}
 use mathlib.Core.Option.{Option}
 use lib.ListN.{length}
 use Rattle.description.specs.Format.{Description}
-use Rattle.rules.specs.Soundness.{candidates}
-use Rattle.rules.specs.Placements.{broken16, broken17, secure}
-use Rattle.rules.specs.Cost.{cost}
+use Rattle.security.specs.Soundness.{candidates}
+use Rattle.security.specs.Placements.{broken16, broken17, secure}
+use Rattle.costs.specs.Cost.{cost}
 use Rattle.rules.specs.Options.{sameOption}
 use Rattle.lister.specs.declared.Row.{Row}
 use Rattle.lister.specs.declared.Cursor.{Cursor}

@@ -4,10 +4,10 @@ use mathlib.Core.Path.{_≡_}
 use mathlib.Core.Bool.{false, not}
 use mathlib.Core.List.{List, _++_}
 use lib.ListN.{length, replicate}
-use Rattle.walk.specs.Packing.{pack, Low}
-use Rattle.walk.specs.Visiting.{earlier}
-use Rattle.walk.specs.declared.visit.Seen.{Seen}
-use Rattle.walk.specs.declared.visit.Task.{Task}
+use Rattle.packing.specs.Packing.{pack, Low}
+use Rattle.visiting.specs.Visiting.{earlier}
+use Rattle.visiting.specs.declared.visit.Seen.{Seen}
+use Rattle.visiting.specs.declared.visit.Task.{Task}
 use Rattle.lister.specs.declared.Cursor.{Cursor}
 use Rattle.lister.specs.Rows.{later}
 

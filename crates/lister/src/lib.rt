@@ -5,30 +5,27 @@ ghost use lib.ListN.{length};
 ghost use Rattle.sequences.specs.Results.{ok};
 ghost use Rattle.description.specs.Invariants.{WellFormed, InRange};
 ghost use Rattle.description.specs.Meaning.{describes};
-ghost use Rattle.rules.specs.Soundness.{read};
+ghost use Rattle.security.specs.Soundness.{read};
 ghost use Rattle.walk.specs.Walking.{seeAll, keepAll};
 ghost use Rattle.lister.specs.Answers.{censusAnswer, drawAnswer, figuresOf, rowBeside, zeroRow};
-ghost use Rattle.lister.specs.Building.{tablesOf};
+ghost use Rattle.tables.specs.Building.{tablesOf};
 ghost use Rattle.lister.specs.Calls.{censusCall, drawCall};
 ghost use Rattle.lister.specs.Rows.{census, draw};
 ghost use Rattle.lister.specs.Seeing.{nothingSeen, TaskOf};
-
-pub mod tables;
-
 use description::workflow::Outcome;
 use description::workflow::Refusal;
 use description::workflow::Workflow;
 use description::workflow::block_count;
 use description::workflow::cloud_count;
+use packing::floor::floor_place;
+use packing::packing::unpacked;
 use rules::acceptance::accept;
-use rules::soundness::candidate_count;
-use walk::floor::floor_place;
-use walk::packing::unpacked;
-use walk::visit::Seen;
-use walk::visit::Task;
-use walk::visit::seen_of;
-use walk::visit::seen_words;
-use walk::visit::task_words;
+use security::soundness::candidate_count;
+use visiting::visit::Seen;
+use visiting::visit::Task;
+use visiting::visit::seen_of;
+use visiting::visit::seen_words;
+use visiting::visit::task_words;
 use walk::walk::walk_all;
 
 // Document 01's "row": the cost and the sixteen cloud numbers of the placement that stands for its option.

@@ -6,8 +6,8 @@ use mathlib.Core.List.{List, [], _∷_, _++_, map, append-nil, append-assoc, map
 use lib.ListN.{length, getD, take, drop, set, length-append, length-map}
 use lib.Seq.{take-all, take-nil, drop-nil, drop-drop}
 use Rattle.sequences.proofs.Loops.{rest}
-use Rattle.walk.specs.Packing.{digits as clouds}
-use Rattle.walk.proofs.Digits.{digits-length}
+use Rattle.packing.specs.Packing.{digits as clouds}
+use Rattle.packing.proofs.Digits.{digits-length}
 use Rattle.listing.specs.Lines.{digit, decimal, written}
 use Rattle.listing.specs.Batches.{wordsLine, linesOf, rowWords}
 use Rattle.listing.specs.Statements.{Batches}

@@ -1,7 +1,7 @@
 -- The worked examples, by computation.
 use mathlib.Core.Path.{refl}
 use native.Mathlib.Omega.{arith}
-use Rattle.walk.specs.Packing.{digits as clouds}
+use Rattle.packing.specs.Packing.{digits as clouds}
 use Rattle.listing.specs.Lines.{digits, decimal}
 use Rattle.listing.specs.Batches.{wordsLine}
 use Rattle.listing.specs.Statements.{Examples}

@@ -2,7 +2,7 @@
 use Prim.Native.Nat.{ℕ, _-_, _*_, _/_, min}
 use mathlib.Core.List.{List, [], _∷_, _++_}
 use lib.ListN.{length, take, drop}
-use Rattle.walk.specs.Packing.{digits as clouds}
+use Rattle.packing.specs.Packing.{digits as clouds}
 use Rattle.listing.specs.Lines.{rowLine}
 
 -- the line of a row

@@ -3,7 +3,7 @@ ghost use mathlib.Core.Path.{_≡_};
 ghost use mathlib.Core.List.{_++_, map};
 ghost use Prim.Native.Nat.{_+_, _-_, _≤_, min};
 ghost use lib.ListN.{length, drop};
-ghost use Rattle.walk.specs.Packing.{digits as clouds};
+ghost use Rattle.packing.specs.Packing.{digits as clouds};
 ghost use Rattle.listing.specs.Lines.{digit, decimal, written};
 ghost use Rattle.listing.specs.Batches.{wordsLine, batch, batchText};
 use crate::last_digit;

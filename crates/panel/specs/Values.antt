@@ -4,7 +4,7 @@ use mathlib.Core.List.{List, [], _∷_}
 use mathlib.Core.Option.{Option, none, some}
 use lib.ListN.{length}
 use Rattle.rules.specs.Calls.{Counts}
-use Rattle.rules.specs.Transfers.{Transfer}
+use Rattle.costs.specs.Transfers.{Transfer}
 use Rattle.lister.specs.declared.Row.{Row}
 use Rattle.lister.specs.Answers.{rowBeside}
 use Rattle.lister.specs.Rows.{Census}

@@ -3,13 +3,17 @@
 ghost use mathlib.Core.Path.{_≡_};
 ghost use Prim.Native.Nat.{_-_, _^_, min};
 ghost use lib.ListN.{length};
-ghost use Rattle.rules.specs.Answers.{readAnswer, judgeAnswer, transfersAnswer};
-ghost use Rattle.rules.specs.Calls.{readCall, judgeCall, transfersCall, bufferAfter};
+ghost use Rattle.rules.specs.Answers.{readAnswer};
+ghost use Rattle.security.specs.Answers.{judgeAnswer};
+ghost use Rattle.costs.specs.Answers.{transfersAnswer};
+ghost use Rattle.rules.specs.Calls.{readCall, judgeCall, transfersCall};
+ghost use Rattle.costs.specs.Transfers.{bufferAfter};
 ghost use Rattle.lister.specs.Answers.{censusAnswer, drawAnswer};
 ghost use Rattle.lister.specs.Calls.{censusCall, drawCall};
 ghost use Rattle.enumeration.specs.WholeList.{listAnswer, listCall, rowsAfter, scratchAfter};
 ghost use Rattle.panel.specs.Statuses.{refusalStatus, status, valuesAfter};
 ghost use Rattle.panel.specs.Values.{counts as countValues, transferCount, figures as figureValues, rowOrNone, rowBytes, extent as extentValues, one};
+use costs::answers::Transferred;
 use description::workflow::Refusal;
 use enumeration::Listed;
 use lister::Answer;
@@ -17,8 +21,7 @@ use lister::Counted;
 use lister::Cursor;
 use lister::Drawn;
 use rules::answers::Acceptance;
-use rules::answers::Transferred;
-use rules::answers::Verdict;
+use security::answers::Verdict;
 
 // A place has 56 bits of a status: one that does not fit is the highest that does.
 fn kept_place(place: usize) -> u64

@@ -15,8 +15,8 @@ use Rattle.description.specs.declared.workflow.Kind.the-variants.{Datum, Servic
 use Rattle.description.specs.declared.workflow.Edge.{Edge}
 use Rattle.description.specs.Format.{Description, block, cloud, noEdge, isDatum, isWrite}
 use Rattle.description.specs.Invariants.{WellFormed}
-use Rattle.rules.specs.Placements.{serviceCloud, datumCloud, moves}
-use Rattle.rules.specs.Cost.{chargedOf, edgeCost}
+use Rattle.security.specs.Placements.{serviceCloud, datumCloud, moves}
+use Rattle.costs.specs.Cost.{chargedOf, edgeCost}
 use Rattle.rules.specs.Options.{writersOf, readersOf, stem, branch, joined, part, partOf}
 use Rattle.rules.specs.Representatives.{dataOf, storedOn, share, otherEnd, between, movesTo, SameServices}
 use Rattle.rules.proofs.Locality.{data-are, edge-service, edge-datum}

@@ -1,9 +1,5 @@
-pub mod Accepted
-pub mod Candidates
-pub mod CostBound
-pub mod Deciding
 pub mod Ends
-pub mod Judging
+pub mod Judged
 pub mod Locality
 pub mod Mixing
 pub mod Moving
@@ -11,7 +7,4 @@ pub mod Options
 pub mod Paths
 pub mod Reached
 pub mod Representatives
-pub mod Sides
 pub mod Storage
-pub mod Transferring
-pub mod Weights

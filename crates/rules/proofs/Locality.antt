@@ -15,12 +15,12 @@ use Rattle.description.specs.declared.workflow.Kind.the-variants.{Datum, Servic
 use Rattle.description.specs.declared.workflow.Edge.{Edge}
 use Rattle.description.specs.Format.{Description, block, cloud, edge, noEdge, isDatum, isWrite, namesService}
 use Rattle.description.specs.Invariants.{WellFormed}
-use Rattle.rules.specs.Placements.{serviceCloud, datumCloud, moves, exposes}
-use Rattle.rules.specs.Transfers.{transfers}
-use Rattle.rules.specs.Cost.{storageOf, cpuOf, ofBlocks, edgeCost, cost}
+use Rattle.security.specs.Placements.{serviceCloud, datumCloud, moves, exposes}
+use Rattle.costs.specs.Transfers.{transfers}
+use Rattle.costs.specs.Cost.{storageOf, cpuOf, ofBlocks, edgeCost, cost}
 use Rattle.rules.specs.Options.{writersOf, readersOf, stem, branch, joined, part}
 use Rattle.rules.specs.Representatives.{dataOf, edgesOf, storedOn, share, SameServices}
-use Rattle.rules.proofs.Transferring.{transfers-by-edge}
+use Rattle.costs.proofs.Transferring.{transfers-by-edge}
 use Rattle.sequences.specs.Ascending.{Once}
 use Rattle.sequences.specs.Lists.{keep, below, sum}
 use Rattle.sequences.proofs.Tests.{both-pass}

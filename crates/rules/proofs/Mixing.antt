@@ -11,12 +11,12 @@ use borrow.Author.Tests.{ltb-true, lt-ltb, not-true}
 use Rattle.description.specs.declared.workflow.Edge.{Edge}
 use Rattle.description.specs.Format.{Description, block, isWrite}
 use Rattle.description.specs.Invariants.{WellFormed}
-use Rattle.rules.specs.Soundness.{mayStand, candidates}
-use Rattle.rules.specs.Placements.{exposes, breaks16, breaks17, secure}
+use Rattle.security.specs.Soundness.{mayStand, candidates}
+use Rattle.security.specs.Placements.{exposes, breaks16, breaks17, secure}
 use Rattle.rules.specs.Options.{sameOption}
 use Rattle.rules.specs.Representatives.{SameServices, Mix, SecureCandidate}
-use Rattle.rules.proofs.Deciding.{may-stand}
-use Rattle.rules.proofs.Candidates.{candidates-placed}
+use Rattle.security.proofs.Deciding.{may-stand}
+use Rattle.security.proofs.Candidates.{candidates-placed}
 use Rattle.rules.proofs.Options.{service-named, same-parts, same-services}
 use Rattle.rules.proofs.Locality.{data-are, edge-service, edge-datum, exposes-alike, part-local}
 use Rattle.sequences.proofs.Members.{none-members}

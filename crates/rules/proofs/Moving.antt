@@ -13,12 +13,12 @@ use borrow.Author.Tests.{le-leb, ne-eqb, not-false}
 use Rattle.description.specs.declared.workflow.Edge.{Edge}
 use Rattle.description.specs.Format.{Description, block}
 use Rattle.description.specs.Invariants.{WellFormed}
-use Rattle.rules.specs.Soundness.{covers, cloudLevel, blockLevel, mayStand, candidates}
-use Rattle.rules.specs.Placements.{serviceCloud, datumCloud, moves, exposes, secure}
-use Rattle.rules.specs.Cost.{cost}
+use Rattle.security.specs.Soundness.{covers, cloudLevel, blockLevel, mayStand, candidates}
+use Rattle.security.specs.Placements.{serviceCloud, datumCloud, moves, exposes, secure}
+use Rattle.costs.specs.Cost.{cost}
 use Rattle.rules.specs.Options.{partOf, sameOption}
 use Rattle.rules.specs.Representatives.{dataOf, share, SameServices, SecureCandidate}
-use Rattle.rules.proofs.Deciding.{may-stand}
+use Rattle.security.proofs.Deciding.{may-stand}
 use Rattle.rules.proofs.Options.{service-named, same-parts}
 use Rattle.rules.proofs.Locality.{data-are, data-once, edge-service, edge-datum, part-local, share-local, cost-shares, cpu-local}
 use Rattle.rules.proofs.Mixing.{secure-edges, candidates-stand, block-low}

@@ -1,9 +1,9 @@
 -- The table of `specs/Reached.antt`, by computation.
 use mathlib.Core.Path.{refl}
 use Rattle.description.specs.Format.{decode}
-use Rattle.rules.specs.Soundness.{covers, breaks2, breaks3, breaks4, mayStand, choicesOf, count, sound, read}
-use Rattle.rules.specs.Placements.{moves, exposes, breaks16, breaks17, badPosition, judge}
-use Rattle.rules.specs.Transfers.{transfers}
+use Rattle.security.specs.Soundness.{covers, breaks2, breaks3, breaks4, mayStand, choicesOf, count, sound, read}
+use Rattle.security.specs.Placements.{moves, exposes, breaks16, breaks17, badPosition, judge}
+use Rattle.costs.specs.Transfers.{transfers}
 use Rattle.rules.specs.Calls.{readCall, judgeCall, transfersCall}
 use Rattle.rules.specs.Reached.{Reached}
 

@@ -11,11 +11,11 @@ use lib.ListN.{length, getD, set}
 use borrow.Author.Tests.{lt-ltb, not-true}
 use Rattle.description.specs.Format.{Description, block, isDatum}
 use Rattle.description.specs.Invariants.{WellFormed}
-use Rattle.rules.specs.Soundness.{mayStand}
-use Rattle.rules.specs.Cost.{cost}
+use Rattle.security.specs.Soundness.{mayStand}
+use Rattle.costs.specs.Cost.{cost}
 use Rattle.rules.specs.Options.{partOf, sameOption}
 use Rattle.rules.specs.Representatives.{dataOf, share, betterOn, standsLocally, SameServices, SecureCandidate, Earlier, First}
-use Rattle.rules.proofs.Deciding.{may-stand}
+use Rattle.security.proofs.Deciding.{may-stand}
 use Rattle.rules.proofs.Options.{same-parts, same-services}
 use Rattle.rules.proofs.Locality.{data-are, part-local, share-local, cost-shares, cpu-local}
 use Rattle.rules.proofs.Mixing.{candidates-stand, block-low, cloud-low}

@@ -1,13 +1,6 @@
-pub mod Accepted
 pub mod Answers
 pub mod Calls
-pub mod Cost
 pub mod Inputs
 pub mod Options
-pub mod Placements
 pub mod Reached
 pub mod Representatives
-pub mod Soundness
-pub mod Statements
-pub mod Terms
-pub mod Transfers

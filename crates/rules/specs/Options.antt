@@ -8,7 +8,7 @@ use Rattle.description.specs.declared.workflow.Kind.{Kind}
 use Rattle.description.specs.declared.workflow.Kind.the-variants.{Datum, Service}
 use Rattle.description.specs.declared.workflow.Edge.{Edge}
 use Rattle.description.specs.Format.{Description, block, isWrite}
-use Rattle.rules.specs.Placements.{serviceCloud, moves}
+use Rattle.security.specs.Placements.{serviceCloud, moves}
 use Rattle.sequences.specs.Lists.{keep, below, equalBy, same}
 
 -- the edges that write datum n (at most one in an accepted description), and those that read it, in edge order

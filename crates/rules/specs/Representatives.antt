@@ -9,9 +9,9 @@ use lib.ListN.{length, getD, set}
 use lib.Dec.{eqb}
 use Rattle.description.specs.declared.workflow.Edge.{Edge}
 use Rattle.description.specs.Format.{Description, block, cloud, isDatum, namesService}
-use Rattle.rules.specs.Soundness.{mayStand, candidates}
-use Rattle.rules.specs.Placements.{serviceCloud, secure}
-use Rattle.rules.specs.Cost.{storageOf, edgeCost, cost}
+use Rattle.security.specs.Soundness.{mayStand, candidates}
+use Rattle.security.specs.Placements.{serviceCloud, secure}
+use Rattle.costs.specs.Cost.{storageOf, edgeCost, cost}
 use Rattle.rules.specs.Options.{writersOf, readersOf, partOf, sameOption}
 use Rattle.sequences.specs.Lists.{any, keep, below, sum, equalBy, same, before}
 

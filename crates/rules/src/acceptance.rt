@@ -1,17 +1,17 @@
 // What Read accepts: a decoded description that keeps rules 2 to 4 and has few enough candidates.
 ghost use mathlib.Core.Path.{_≡_};
 ghost use Rattle.description.specs.Meaning.{describes, decodingOf, outcomeOf};
-ghost use Rattle.rules.specs.Soundness.{sound, read};
-use crate::answers::Found;
-use crate::answers::Rule;
-use crate::placements::first_breaking;
-use crate::soundness::candidate_count;
-use crate::soundness::first_breaking_rule2;
+ghost use Rattle.security.specs.Soundness.{sound, read};
 use description::decode::decode;
 use description::workflow::Decoding;
 use description::workflow::Outcome;
 use description::workflow::Refusal;
 use description::workflow::Workflow;
+use security::answers::Found;
+use security::answers::Rule;
+use security::placements::first_breaking;
+use security::soundness::candidate_count;
+use security::soundness::first_breaking_rule2;
 
 fn refused(number: u8, place: usize) -> Outcome
     ensures { λ r. ⌜ r ≡ Outcome.Refused (record { number = number; place = place }) ⌝ }

@@ -4,25 +4,23 @@ ghost use mathlib.Core.List.{List};
 ghost use Prim.Native.Nat.{ℕ};
 ghost use lib.ListN.{length};
 ghost use Rattle.sequences.specs.Results.{ok, andThen};
-ghost use Rattle.rules.specs.Answers.{readAnswer, judgeAnswer, transfersAnswer};
-ghost use Rattle.rules.specs.Calls.{readCall, judgeCall, transfersCall, bufferAfter};
+ghost use Rattle.rules.specs.Answers.{readAnswer};
+ghost use Rattle.security.specs.Answers.{judgeAnswer};
+ghost use Rattle.costs.specs.Answers.{transfersAnswer};
+ghost use Rattle.rules.specs.Calls.{readCall, judgeCall, transfersCall};
+ghost use Rattle.costs.specs.Transfers.{bufferAfter};
 
 pub mod acceptance;
 pub mod answers;
-pub mod cost;
-pub mod placements;
-pub mod soundness;
-pub mod terms;
-pub mod transfer;
 
 use answers::Acceptance;
-use answers::Transferred;
-use answers::Verdict;
+use costs::answers::Transferred;
 use description::workflow::Outcome;
 use description::workflow::Refusal;
 use description::workflow::block_count;
 use description::workflow::cloud_count;
 use description::workflow::edge_count;
+use security::answers::Verdict;
 
 // Read: the counts of clouds, blocks and edges of an accepted description, or its first refusal.
 pub fn read(description: &[u8]) -> Acceptance
@@ -49,7 +47,7 @@ pub fn judge(description: &[u8], placement: [u8; 16]) -> Verdict
     let outcome = a.outcome;
     let w = a.workflow;
     match outcome {
-        Outcome::Accepted => placements::verdict(w, placement),
+        Outcome::Accepted => security::placements::verdict(w, placement),
         Outcome::Refused(r) => Verdict::Refused(r),
     }
 }
@@ -63,7 +61,7 @@ pub fn transfers(description: &[u8], placement: [u8; 16], buffer: &mut [u8]) -> 
     let outcome = a.outcome;
     let w = a.workflow;
     match outcome {
-        Outcome::Accepted => transfer::written_if_secure(w, placement, buffer),
+        Outcome::Accepted => costs::transfer::written_if_secure(w, placement, buffer),
         Outcome::Refused(r) => Transferred::Refused(r),
     }
 }

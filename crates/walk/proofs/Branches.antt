@@ -6,7 +6,7 @@ use mathlib.Core.Bool.{Bool, true, false, cond}
 use mathlib.Core.List.{List, [], _∷_, _++_, map, map-append, append-assoc, append-nil}
 use lib.ListN.{length, length-append}
 use Rattle.sequences.specs.Lists.{keep, below, prefixed, sequences}
-use Rattle.walk.specs.Tables.{allowed}
+use Rattle.visiting.specs.Tables.{allowed}
 use Rattle.walk.specs.Turning.{Setting, choices, completions, branches}
 use Rattle.walk.proofs.Sums.{below-next}
 

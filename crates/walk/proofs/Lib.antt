@@ -1,10 +1,4 @@
 pub mod Branches
-pub mod Digits
-pub mod Finding
-pub mod Floors
-pub mod Rows
-pub mod Seeing
 pub mod Sums
-pub mod Tallies
 pub mod Turns
 pub mod Weights

@@ -10,14 +10,14 @@ use lib.ListN.{length, getD}
 use borrow.Author.Tests.{eq-eqb, ne-eqb}
 use Rattle.sequences.specs.Lists.{below}
 use Rattle.sequences.proofs.Tests.{cond-ind}
-use Rattle.walk.specs.declared.visit.Seen.{Seen}
-use Rattle.walk.specs.declared.visit.Task.{Task}
-use Rattle.walk.specs.Packing.{digits}
-use Rattle.walk.specs.Tables.{Tables, tables, allowed, bit, ownTerm, edgeTerm, start, weight, movesTo, stands, placements, Paired, Ready}
-use Rattle.walk.specs.Visiting.{see, keepRow, isSecure, breaks16, wanted}
+use Rattle.visiting.specs.declared.visit.Seen.{Seen}
+use Rattle.visiting.specs.declared.visit.Task.{Task}
+use Rattle.packing.specs.Packing.{digits}
+use Rattle.visiting.specs.Tables.{Tables, tables, allowed, bit, ownTerm, edgeTerm, start, weight, movesTo, stands, placements, Paired, Ready}
+use Rattle.visiting.specs.Visiting.{see, keepRow, isSecure, breaks16, wanted}
 use Rattle.walk.specs.Walking.{Sight, seeAt, seeAll, keepAt, keepAll}
 use Rattle.walk.specs.Turning.{Setting, Carried, tally, completions, branches, seeThese, Under, Walked}
-use Rattle.walk.proofs.Digits.{digits-length, digits-snoc, pack-digits}
+use Rattle.packing.proofs.Digits.{digits-length, digits-snoc, pack-digits}
 use Rattle.walk.proofs.Branches.{branches-next, branches-all, branch-shut, branch-open, completions-all, completions-none}
 
 -- ---- parts of the tables: a step looks at no mask and no pair, a visit at no edge

@@ -7,9 +7,9 @@ use mathlib.Core.List.{List, [], _∷_, _++_, map}
 use lib.ListN.{length, getD, List·getD-append}
 use lib.Seq.{getD-at}
 use Rattle.sequences.specs.Lists.{below, sum}
-use Rattle.walk.specs.Packing.{digits}
-use Rattle.walk.specs.Tables.{Tables, ownTerm, edgeTerm, start, weight, Ready}
-use Rattle.walk.proofs.Digits.{digits-length, digits-snoc, digit-below}
+use Rattle.packing.specs.Packing.{digits}
+use Rattle.visiting.specs.Tables.{Tables, ownTerm, edgeTerm, start, weight, Ready}
+use Rattle.packing.proofs.Digits.{digits-length, digits-snoc, digit-below}
 use Rattle.walk.proofs.Sums.{sum-next, sum-below-most, sum-same}
 
 -- the terms of the first k blocks and the first e edges

@@ -1,6 +1,2 @@
-pub mod Floors
-pub mod Packing
-pub mod Tables
 pub mod Turning
-pub mod Visiting
 pub mod Walking

@@ -4,10 +4,10 @@ use mathlib.Core.Path.{_≡_}
 use mathlib.Core.List.{List, [], _∷_, _++_, map, foldl}
 use lib.ListN.{length}
 use Rattle.sequences.specs.Lists.{keep, from, below, prefixed, sequences}
-use Rattle.walk.specs.declared.visit.Seen.{Seen}
-use Rattle.walk.specs.declared.visit.Task.{Task}
-use Rattle.walk.specs.Packing.{digits}
-use Rattle.walk.specs.Tables.{Tables, tables, allowed, weight, Ready}
+use Rattle.visiting.specs.declared.visit.Seen.{Seen}
+use Rattle.visiting.specs.declared.visit.Task.{Task}
+use Rattle.packing.specs.Packing.{digits}
+use Rattle.visiting.specs.Tables.{Tables, tables, allowed, weight, Ready}
 use Rattle.walk.specs.Walking.{Sight, keepAt}
 
 -- what stays the same all the way down

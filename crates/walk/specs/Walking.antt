@@ -1,11 +1,11 @@
 -- The walk: every placement is seen once, in order, and rows that are counted are kept.
 use Prim.Native.Nat.{ℕ}
 use mathlib.Core.List.{List, foldl}
-use Rattle.walk.specs.declared.visit.Seen.{Seen}
-use Rattle.walk.specs.declared.visit.Task.{Task}
-use Rattle.walk.specs.Packing.{pack}
-use Rattle.walk.specs.Tables.{Tables, placements, weight, stands}
-use Rattle.walk.specs.Visiting.{see, keepRow}
+use Rattle.visiting.specs.declared.visit.Seen.{Seen}
+use Rattle.visiting.specs.declared.visit.Task.{Task}
+use Rattle.packing.specs.Packing.{pack}
+use Rattle.visiting.specs.Tables.{Tables, placements, weight, stands}
+use Rattle.visiting.specs.Visiting.{see, keepRow}
 
 -- a placement of n blocks is seen
 abbrev pub seeAt : Tables → (n : ℕ) → Task → Seen → List ℕ → Seen

@@ -1,13 +1,13 @@
 // The walk down the blocks. Each block is put on each cloud where it may stand, and the weight of the blocks so far is carried down.
-use crate::visit::pass_or_visit;
-use crate::visit::visit;
+use visiting::visit::pass_or_visit;
+use visiting::visit::visit;
 ghost use Prim.Native.Nat.{_+_, _-_, _*_, _^_, _≤_, _<_};
 ghost use mathlib.Core.Path.{_≡_};
 ghost use mathlib.Core.List.{[]};
 ghost use lib.ListN.{length, getD};
-ghost use Rattle.walk.specs.Tables.{Ready, tables};
+ghost use Rattle.visiting.specs.Tables.{Ready, tables};
 ghost use Rattle.walk.specs.Turning.{setting, Carried, tally, Under, WalkedBelow, Turned};
-ghost use Rattle.walk.specs.Visiting.{seenIn, taskIn};
+ghost use Rattle.visiting.specs.Visiting.{seenIn, taskIn};
 ghost use Rattle.walk.specs.Walking.{seeAll, keepAll};
 
 fn wide(x: u8) -> usize

@@ -4,7 +4,7 @@ use mathlib.Core.Path.{_≡_, sym, ap, _∙_}
 use native.Mathlib.Omega.{arith}
 use Rattle.description.specs.Bytes.{Bytes}
 use Rattle.description.specs.Meaning.{describes}
-use Rattle.rules.proofs.Accepted.{read-wellFormed, read-inRange}
+use Rattle.security.proofs.Accepted.{read-wellFormed, read-inRange}
 use Rattle.lister.proofs.Counting.{options-number}
 use Rattle.lister.proofs.Joins.{counted-by}
 use Rattle.enumeration.proofs.RowsInWords.{walk-keeps}

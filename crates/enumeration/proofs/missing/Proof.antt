@@ -7,7 +7,7 @@ use native.Mathlib.Omega.{arith}
 use lib.ListN.{length}
 use borrow.Author.Tests.{le-leb, lt-leb}
 use Rattle.description.specs.Meaning.{describes}
-use Rattle.rules.proofs.Accepted.{accepted}
+use Rattle.security.proofs.Accepted.{accepted}
 use Rattle.lister.specs.Rows.{rows}
 use Rattle.lister.proofs.Counting.{options-number}
 use Rattle.enumeration.specs.WholeList.{needed}

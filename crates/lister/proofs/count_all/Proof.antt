@@ -5,7 +5,7 @@ use borrow.Author.Needs.{needs}
 use mathlib.Core.Path.{subst}
 use Prim.Native.Nat.{ℕ, _+_, _≤_}
 use Rattle.description.specs.Meaning.{describes}
-use Rattle.rules.proofs.Accepted.{read-wellFormed, read-inRange}
+use Rattle.security.proofs.Accepted.{read-wellFormed, read-inRange}
 use Rattle.lister.specs.Answers.{figuresOf}
 use Rattle.lister.specs.Rows.{census}
 use Rattle.lister.proofs.Joins.{census-is, counted-by, candidates-few}

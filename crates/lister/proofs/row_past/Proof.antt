@@ -8,8 +8,8 @@ use mathlib.Core.Option.{Option}
 use lib.ListN.{replicate}
 use Rattle.description.specs.Meaning.{describes}
 use Rattle.sequences.specs.Results.{Result, ok}
-use Rattle.rules.proofs.Accepted.{read-wellFormed, read-inRange}
-use Rattle.walk.specs.Packing.{digits}
+use Rattle.security.proofs.Accepted.{read-wellFormed, read-inRange}
+use Rattle.packing.specs.Packing.{digits}
 use Rattle.lister.specs.declared.Row.{Row}
 use Rattle.lister.specs.Answers.{drawAnswer, rowBeside}
 use Rattle.lister.specs.Rows.{draw}

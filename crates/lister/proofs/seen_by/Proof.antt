@@ -2,14 +2,14 @@
 use mathlib.Core.Path.{_≡_, refl, sym, ap, _∙_}
 use mathlib.Core.Path.{subst, subst₂}
 use Prim.Native.Nat.{_^_, _≤_}
-use Rattle.walk.specs.declared.visit.Seen.{Seen}
+use Rattle.visiting.specs.declared.visit.Seen.{Seen}
 use native.Mathlib.Omega.{arith}
 use Rattle.description.specs.Meaning.{describes}
-use Rattle.walk.specs.Tables.{tables, Ready}
+use Rattle.visiting.specs.Tables.{tables, Ready}
 use Rattle.walk.specs.Walking.{seeAll, keepAll}
-use Rattle.lister.specs.Building.{tablesOf}
+use Rattle.tables.specs.Building.{tablesOf}
 use Rattle.lister.specs.Seeing.{nothingSeen}
-use Rattle.lister.proofs.Built.{ready, tables-are}
+use Rattle.tables.proofs.Built.{ready, tables-are}
 use Rattle.lister.proofs.Joins.{none-seen, none-kept-words}
 use borrow.Author.Needs.{needs}
 use Rattle.lister.proofs.seen_by.Statement.{statement}

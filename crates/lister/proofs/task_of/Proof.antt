@@ -5,7 +5,7 @@ use mathlib.Core.Bool.{_||_, _&&_}
 use mathlib.Core.List.{_++_}
 use lib.Dec.{ltb, eqb}
 use lib.ListN.{replicate}
-use Rattle.walk.specs.Packing.{pack}
+use Rattle.packing.specs.Packing.{pack}
 use Rattle.lister.specs.Rows.{earlier}
 use Rattle.lister.proofs.Cursors.{turned, lowest}
 use borrow.Author.Needs.{needs}

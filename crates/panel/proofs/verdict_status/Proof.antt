@@ -1,6 +1,6 @@
 -- Each verdict has its status.
 use mathlib.Core.Path.{sym, ap, _∙_}
-use Rattle.rules.specs.Answers.{judgeAnswer}
+use Rattle.security.specs.Answers.{judgeAnswer}
 use Rattle.panel.specs.Statuses.{status}
 use borrow.Author.Needs.{needs}
 use Rattle.panel.proofs.verdict_status.Statement.{statement}

@@ -3,7 +3,7 @@ use mathlib.Core.Path.{_∙_}
 use Rattle.description.specs.Meaning.{describes}
 use Rattle.description.proofs.Outcomes.{passes-on, goes-on-with}
 use Rattle.rules.specs.Calls.{judgeCall}
-use Rattle.rules.specs.Placements.{judge}
+use Rattle.security.specs.Placements.{judge}
 use borrow.Author.Needs.{needs}
 use Rattle.rules.proofs.judge.Statement.{statement}
 use Rattle.rules.proofs.judge.Tie as tie

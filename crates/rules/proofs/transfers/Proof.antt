@@ -4,10 +4,11 @@ use lib.ListN.{length}
 use mathlib.Core.List.{List}
 use Rattle.description.specs.Meaning.{describes, outcomeOf}
 use Rattle.description.specs.Format.{Description}
-use Rattle.rules.specs.Transfers.{Transfer, transfers}
-use Rattle.rules.specs.Calls.{fitted, bufferAfter, transfersCall}
+use Rattle.costs.specs.Transfers.{Transfer, transfers}
+use Rattle.costs.specs.Transfers.{fitted, bufferAfter}
+use Rattle.rules.specs.Calls.{transfersCall}
 use Rattle.sequences.specs.Results.{ok, andThen}
-use Rattle.rules.specs.Placements.{judge}
+use Rattle.security.specs.Placements.{judge}
 use borrow.Author.Needs.{needs}
 use Rattle.rules.proofs.transfers.Statement.{statement}
 use Rattle.rules.proofs.transfers.Tie as tie

@@ -3,7 +3,7 @@ use Prim.Native.Nat.{ℕ, suc, _+_, _-_, _/_, _%_, _≤_}
 use native.Mathlib.Omega.{arith}
 use mathlib.Core.Path.{_≡_, ap, _∙_}
 use mathlib.Core.List.{map}
-use Rattle.walk.specs.Packing.{digits as clouds}
+use Rattle.packing.specs.Packing.{digits as clouds}
 use Rattle.listing.specs.Lines.{digit}
 use Rattle.listing.proofs.Writing.{Filling, begun, filled-more, filled}
 use Rattle.listing.proofs.Batches.{last-cloud, clouds-size}

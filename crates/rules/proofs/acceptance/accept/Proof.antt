@@ -2,7 +2,7 @@
 use mathlib.Core.Path.{ap, _∙_}
 use Rattle.description.specs.Meaning.{describes, outcomeOf}
 use Rattle.description.proofs.Outcomes.{passes-on, goes-on-with}
-use Rattle.rules.specs.Soundness.{sound, read}
+use Rattle.security.specs.Soundness.{sound, read}
 use borrow.Author.Needs.{needs}
 use Rattle.rules.proofs.acceptance.accept.Statement.{statement}
 use Rattle.rules.proofs.acceptance.accept.Tie as tie

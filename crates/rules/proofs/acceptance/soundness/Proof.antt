@@ -3,9 +3,9 @@ use mathlib.Core.Path.{sym, ap, _∙_}
 use native.Mathlib.Omega.{arith}
 use Prim.Native.Nat.{_≤_, _<_}
 use borrow.Author.Tests.{lt-ltb, le-ltb}
-use Rattle.rules.specs.Answers.{foundIn}
+use Rattle.security.specs.Answers.{foundIn}
 use Rattle.description.specs.Meaning.{describes, outcomeOf}
-use Rattle.rules.specs.Soundness.{sound, count}
+use Rattle.security.specs.Soundness.{sound, count}
 use borrow.Author.Needs.{needs}
 use Rattle.rules.proofs.acceptance.soundness.Statement.{statement}
 use Rattle.rules.proofs.acceptance.soundness.Tie as tie

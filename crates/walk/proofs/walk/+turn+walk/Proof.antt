@@ -6,11 +6,11 @@ use native.Mathlib.Omega.{arith}
 use mathlib.Core.Path.{_≡_, refl, _∙_}
 use lib.ListN.{length}
 use Rattle.sequences.specs.Lists.{below}
-use Rattle.walk.specs.Packing.{digits}
-use Rattle.walk.specs.Visiting.{seenIn, taskIn}
+use Rattle.packing.specs.Packing.{digits}
+use Rattle.visiting.specs.Visiting.{seenIn, taskIn}
 use Rattle.walk.specs.Walking.{Sight}
 use Rattle.walk.specs.Turning.{Setting, setting, tally, branches, seeThese, Under, WalkedBelow, Turned}
-use Rattle.walk.proofs.Digits.{place-small}
+use Rattle.packing.proofs.Digits.{place-small}
 use Rattle.walk.proofs.Turns.{paired-blocks, ready-edges, carried-edges, none-yet, one-more, leaf-walked, leaf-low, shut, under-next, open-walked, loop-walked, room-less, room-all}
 use borrow.Fn.Kinds.{In}
 use borrow.Fn.PlainCycle.{Measures, is, falls, and}
@@ -20,8 +20,8 @@ use Rattle.walk.proofs.walk.+turn+walk.Lts-turn as turn-lts
 use Rattle.walk.proofs.walk.walk.Reads as walk
 use Rattle.walk.proofs.walk.walk.Kinds as walk-kinds
 use Rattle.walk.proofs.walk.+turn+walk.Lts-walk as walk-lts
-use Rattle.walk.proofs.visit.pass_or_visit.Reads as pass-reads
-use Rattle.walk.proofs.visit.visit.Reads as visit-reads
+use Rattle.visiting.proofs.visit.pass_or_visit.Reads as pass-reads
+use Rattle.visiting.proofs.visit.visit.Reads as visit-reads
 use Rattle.walk.proofs.walk.step.Reads as step-reads
 use Rattle.walk.proofs.walk.wide.Reads as wide-reads
 use Rattle.walk.proofs.walk.+turn+walk.{statement}

@@ -6,9 +6,9 @@ use native.Mathlib.Numerals.{add-one}
 use mathlib.Core.List.{[]}
 use mathlib.Core.Path.{_≡_, sym, _∙_}
 use lib.ListN.{getD}
-use Rattle.walk.specs.Tables.{Tables, tables, edgeTerm, start}
-use Rattle.walk.specs.Packing.{digits}
-use Rattle.walk.proofs.Digits.{place-small}
+use Rattle.visiting.specs.Tables.{Tables, tables, edgeTerm, start}
+use Rattle.packing.specs.Packing.{digits}
+use Rattle.packing.proofs.Digits.{place-small}
 use Rattle.walk.proofs.Weights.{part, part-weight, part-small, weight-small, part-next, part-edge, edge-next, ends-at}
 use Rattle.walk.proofs.walk.step.Statement.{statement}
 use Rattle.walk.proofs.walk.step.Tie as tie

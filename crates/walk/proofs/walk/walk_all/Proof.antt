@@ -1,7 +1,7 @@
 -- The walk from no block on sees every placement.
 use native.Mathlib.Omega.{arith}
 use borrow.Author.Needs.{needs}
-use Rattle.walk.specs.Visiting.{seenIn, taskIn}
+use Rattle.visiting.specs.Visiting.{seenIn, taskIn}
 use Rattle.walk.specs.Turning.{Setting, setting}
 use Rattle.walk.proofs.Turns.{room-blocks, under-none, all-walked}
 use Rattle.walk.proofs.walk.walk_all.Statement.{statement}

@@ -1,0 +1,4 @@
+pub mod CostBound
+pub mod Sides
+pub mod Transferring
+pub mod Weights

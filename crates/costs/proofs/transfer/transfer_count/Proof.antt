@@ -1,0 +1,69 @@
+-- The transfers so far and those from edge i on make the whole.
+use mathlib.Core.Path.{_≡_, sym, ap, _∙_}
+use native.Mathlib.Omega.{arith}
+use Prim.Native.Nat.{_≤_, _-_}
+use lib.ListN.{length, drop, getD}
+use borrow.Author.Needs.{needs}
+use Rattle.description.specs.Meaning.{describes}
+use Prim.Native.Nat.{_+_}
+use native.Mathlib.Nat.{zero-add}
+use mathlib.Core.Logic.{⊎-elim}
+use mathlib.Core.List.{[], _∷_}
+use lib.ListN.{length-append, drop-of-length-le}
+use Rattle.description.specs.Format.{noEdge}
+use Rattle.costs.proofs.Transferring.{from-next, moved-one, stayed-none}
+use Rattle.sequences.proofs.Loops.{told}
+use Rattle.costs.specs.Transfers.{transfers, transfersFrom}
+use Rattle.security.specs.Placements.{moves}
+use Rattle.costs.proofs.transfer.transfer_count.Statement.{statement}
+use Rattle.costs.proofs.transfer.transfer_count.Tie as tie
+
+abbrev Inv-loop : tie.InvT-loop
+Inv-loop w placement n found₀ i₀ found i = (i ≤ n) × (n ≡ length (describes w .edges)) × (n ≤ 32) × (found ≤ i) × (length (transfers (describes w) placement) ≡ found + length (transfersFrom i placement (drop i (describes w .edges))))
+
+abbrev μ-loop : tie.MeasureT-loop
+μ-loop w placement n found₀ i₀ found i = n - i
+
+edge-count-requires : tie.Need-edge-count-requires Inv-loop μ-loop
+edge-count-requires c κs = search needs
+
+loop-holds : tie.Need-loop-holds Inv-loop μ-loop
+unfolding transfers
+loop-holds c = (search needs, c .edge-count .ensures .0, c .edge-count .ensures .1, search needs, sym (zero-add _))
+
+edge-at-requires : tie.Need-edge-at-requires Inv-loop μ-loop
+edge-at-requires c κs = search needs
+
+moves-requires : tie.Need-moves-requires Inv-loop μ-loop
+moves-requires c κs = search needs
+
+add-found : tie.Need-add-found Inv-loop μ-loop
+add-found c = search needs
+
+add-i : tie.Need-add-i Inv-loop μ-loop
+add-i c = search needs
+
+loop-less : tie.Need-loop-less Inv-loop μ-loop
+loop-less c = search needs
+
+loop-again : tie.Need-loop-again Inv-loop μ-loop
+loop-again c = ⊎-elim (λ w. let m = moved-one (c .before .before .before .before .loop .i) (c .before .before .before .before .before .before .args .placement) (getD (describes (c .before .before .before .before .before .before .args .w) .edges) (c .before .before .before .before .loop .i) noEdge) (told (moves (c .before .before .before .before .before .before .args .placement)) (c .before .before .edge-at .ensures) (c .before .moves .ensures) (w .0 .taken)) in omega (arith, ap length (from-next (c .before .before .before .before .before .before .args .placement) (describes (c .before .before .before .before .before .before .args .w) .edges) (c .before .before .before .before .loop .i) (omega arith)) ∙ length-append (transfersFrom (c .before .before .before .before .loop .i) (c .before .before .before .before .before .before .args .placement) (getD (describes (c .before .before .before .before .before .before .args .w) .edges) (c .before .before .before .before .loop .i) noEdge ∷ [])) (transfersFrom (c .before .before .before .before .loop .i + 1) (c .before .before .before .before .before .before .args .placement) (drop (c .before .before .before .before .loop .i + 1) (describes (c .before .before .before .before .before .before .args .w) .edges))), c .before .before .before .before .loop .inv .4)) (λ w. let m = stayed-none (c .before .before .before .before .loop .i) (c .before .before .before .before .before .before .args .placement) (getD (describes (c .before .before .before .before .before .before .args .w) .edges) (c .before .before .before .before .loop .i) noEdge) (told (moves (c .before .before .before .before .before .before .args .placement)) (c .before .before .edge-at .ensures) (c .before .moves .ensures) (w .0 .left)) in omega (arith, ap length (from-next (c .before .before .before .before .before .before .args .placement) (describes (c .before .before .before .before .before .before .args .w) .edges) (c .before .before .before .before .loop .i) (omega arith)) ∙ length-append (transfersFrom (c .before .before .before .before .loop .i) (c .before .before .before .before .before .before .args .placement) (getD (describes (c .before .before .before .before .before .before .args .w) .edges) (c .before .before .before .before .loop .i) noEdge ∷ [])) (transfersFrom (c .before .before .before .before .loop .i + 1) (c .before .before .before .before .before .before .args .placement) (drop (c .before .before .before .before .loop .i + 1) (describes (c .before .before .before .before .before .before .args .w) .edges))), c .before .before .before .before .loop .inv .4)) (c .if1 .came)
+
+returns : tie.Need-returns Inv-loop μ-loop
+returns c = omega (arith, ap (λ l. length (transfersFrom (c .before .loop .i) (c .before .before .before .args .placement) l)) (drop-of-length-le (describes (c .before .before .before .args .w) .edges) {i = c .before .loop .i} (omega arith)), c .before .loop .inv .4)
+
+pub transfer-count-spec : {M : Type 1} → statement M
+transfer-count-spec =
+    tie.close
+    (tie.spec
+    Inv-loop
+    μ-loop
+    edge-count-requires
+    loop-holds
+    edge-at-requires
+    moves-requires
+    add-found
+    add-i
+    loop-less
+    loop-again
+    returns)

@@ -1,0 +1,48 @@
+-- The cost of a placement: storage, transfers and computing.
+use Prim.Native.Nat.{ℕ, _+_, _*_, _/_}
+use mathlib.Core.Bool.{cond}
+use mathlib.Core.List.{List, map}
+use lib.ListN.{length, getD}
+use Rattle.description.specs.declared.workflow.Cloud.{Cloud}
+use Rattle.description.specs.declared.workflow.Kind.{Kind}
+use Rattle.description.specs.declared.workflow.Kind.the-variants.{Datum, Service}
+use Rattle.description.specs.declared.workflow.Edge.{Edge}
+use Rattle.description.specs.Format.{Description, cloud, block}
+use Rattle.security.specs.Placements.{moves}
+use Rattle.costs.specs.Transfers.{Transfer, transferOf, transfers}
+use Rattle.sequences.specs.Lists.{below, sum}
+
+-- gigabytes charged: the size, in tenths, over 10, rounded up
+unfoldable pub gigabytes : ℕ → ℕ
+gigabytes size = (size + 9) / 10
+
+abbrev pub chargedOf : Kind → ℕ
+chargedOf (Datum size longevity) = gigabytes size
+chargedOf (Service clearance units) = 0
+
+-- a datum is stored on its cloud, for its longevity; a service computes on its cloud
+abbrev pub storageOf : Cloud → Kind → ℕ
+storageOf c (Datum size longevity) = c .storage * gigabytes size * longevity
+storageOf c (Service clearance units) = 0
+
+abbrev pub cpuOf : Cloud → Kind → ℕ
+cpuOf c (Datum size longevity) = 0
+cpuOf c (Service clearance units) = c .cpu * units
+
+-- the source charges its out rate and the destination its in rate
+abbrev pub transferCost : Description → Transfer → ℕ
+transferCost d t = (cloud d (t .source) .outward + cloud d (t .destination) .inward) * chargedOf (block d (t .datum) .kind)
+
+-- what the transfer on an edge costs, 0 where there is none; the edge's number has no part in it
+unfoldable pub edgeCost : Description → List ℕ → Edge → ℕ
+edgeCost d p e = cond (moves p e) (transferCost d (transferOf 0 p e)) 0
+
+-- an amount for block b on its cloud, and for all blocks, summed
+abbrev pub ofBlock : (Cloud → Kind → ℕ) → Description → List ℕ → ℕ → ℕ
+ofBlock amount d p b = amount (cloud d (getD p b 0)) (block d b .kind)
+
+abbrev pub ofBlocks : (Cloud → Kind → ℕ) → Description → List ℕ → ℕ
+ofBlocks amount d p = sum (map (ofBlock amount d p) (below (length (d .blocks))))
+
+unfoldable pub cost : Description → List ℕ → ℕ
+cost d p = ofBlocks storageOf d p + sum (map (transferCost d) (transfers d p)) + ofBlocks cpuOf d p

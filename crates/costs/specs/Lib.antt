@@ -1,0 +1,4 @@
+pub mod Answers
+pub mod Cost
+pub mod Terms
+pub mod Transfers

@@ -1,0 +1,5 @@
+// The transfers that a placement makes, and what it costs.
+pub mod answers;
+pub mod cost;
+pub mod terms;
+pub mod transfer;

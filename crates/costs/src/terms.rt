@@ -1,0 +1,73 @@
+// What one block and one edge add to a placement's weight, from where their blocks stand.
+ghost use mathlib.Core.Path.{_≡_};
+ghost use mathlib.Core.Bool.{cond};
+ghost use Prim.Native.Nat.{_*_, _^_, _≤_, _<_};
+ghost use Rattle.description.specs.Format.{isWrite};
+ghost use Rattle.description.specs.Meaning.{describes};
+ghost use Rattle.costs.specs.Terms.{blockTerm, serviceSide, datumSide};
+ghost use Rattle.security.specs.Soundness.{covers};
+use crate::cost::charged_of;
+use crate::cost::cpu_of;
+use crate::cost::storage_of;
+use description::decode::is_write;
+use description::workflow::Block;
+use description::workflow::Cloud;
+use description::workflow::Way;
+use description::workflow::Workflow;
+use description::workflow::block_at;
+use description::workflow::cloud_at;
+use security::soundness::covers;
+
+// What block b is charged on cloud k.
+pub fn block_term(w: Workflow, b: usize, k: usize) -> u64
+    ensures { λ r. ⌜ r ≡ blockTerm (describes w) b k ⌝ }
+    ensures { λ r. ⌜ r < 2 ^ 49 ⌝ }
+{
+    let cloud = cloud_at(w, k);
+    let block = block_at(w, b);
+    let kind = block.kind;
+    storage_of(cloud, kind) + cpu_of(cloud, kind)
+}
+
+// What an exposed copy adds to the service's end of its edge.
+fn exposed(way: Way, cloud: Cloud, datum: Block) -> u64
+    ensures { λ r. ⌜ r ≡ cond (covers (cloud .level) (datum .level)) 0 (cond (isWrite way) (33 * 2 ^ 53) (2 ^ 53)) ⌝ }
+    ensures { λ r. ⌜ r ≤ 33 * 2 ^ 53 ⌝ }
+{
+    if covers(cloud.level, datum.level) {
+        return 0;
+    }
+    if is_write(way) {
+        return 297237575406452736;
+    }
+    9007199254740992
+}
+
+// What a gigabyte costs at one end: out of its cloud, or into it.
+fn rate_at(out: bool, cloud: Cloud) -> u64
+    ensures { λ r. ⌜ r ≡ cond out (cloud .outward) (cloud .inward) ⌝ }
+    ensures { λ r. ⌜ r ≤ 65535 ⌝ }
+{
+    if out {
+        return cloud.outward as u64;
+    }
+    cloud.inward as u64
+}
+
+// What an edge adds by the cloud of its service alone, where its datum stands on another.
+pub fn service_side(way: Way, cloud: Cloud, datum: Block) -> u64
+    ensures { λ r. ⌜ r ≡ serviceSide way cloud datum ⌝ }
+    ensures { λ r. ⌜ r < 34 * 2 ^ 53 ⌝ }
+{
+    let kind = datum.kind;
+    rate_at(is_write(way), cloud) * charged_of(kind) + exposed(way, cloud, datum)
+}
+
+// What it adds by the cloud of its datum alone.
+pub fn datum_side(way: Way, cloud: Cloud, datum: Block) -> u64
+    ensures { λ r. ⌜ r ≡ datumSide way cloud datum ⌝ }
+    ensures { λ r. ⌜ r < 34 * 2 ^ 53 ⌝ }
+{
+    let kind = datum.kind;
+    rate_at(!is_write(way), cloud) * charged_of(kind)
+}

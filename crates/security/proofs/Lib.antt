@@ -1,0 +1,4 @@
+pub mod Accepted
+pub mod Candidates
+pub mod Deciding
+pub mod Judging

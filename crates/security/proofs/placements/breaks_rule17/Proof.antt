@@ -1,0 +1,24 @@
+-- Each return by the tests that led there.
+use mathlib.Core.Path.{sym, _∙_}
+use borrow.Author.Tests.{not-true, not-false}
+use Rattle.security.specs.Placements.{breaks17}
+use borrow.Author.Needs.{needs}
+use Rattle.security.proofs.placements.breaks_rule17.Statement.{statement}
+use Rattle.security.proofs.placements.breaks_rule17.Tie as tie
+
+is-write-requires : tie.Need-is-write-requires
+is-write-requires c κs = search needs
+
+returns : tie.Need-returns
+unfolding breaks17
+returns c = simp (sym (c .before .is-write .ensures) ∙ not-true _ (c .if1 .taken))
+
+exposes-requires : tie.Need-exposes-requires
+exposes-requires c κs = search needs
+
+returns-2 : tie.Need-returns-2
+unfolding breaks17
+returns-2 c = simp ((sym (c .before .before .is-write .ensures) ∙ not-false _ (c .before .if1 .left)), c .exposes .ensures)
+
+pub breaks-rule17-spec : {M : Type 1} → statement M
+breaks-rule17-spec = tie.close (tie.spec is-write-requires returns exposes-requires returns-2)

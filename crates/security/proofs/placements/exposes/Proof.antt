@@ -1,0 +1,54 @@
+-- Each return by the tests that led there.
+use mathlib.Core.Path.{sym, _∙_}
+use borrow.Author.Tests.{not-true, not-false}
+use Rattle.security.specs.Placements.{exposes}
+use borrow.Author.Needs.{needs}
+use Rattle.security.proofs.placements.exposes.Statement.{statement}
+use Rattle.security.proofs.placements.exposes.Tie as tie
+
+moves-requires : tie.Need-moves-requires
+moves-requires c κs = search needs
+
+returns : tie.Need-returns
+unfolding exposes
+returns c = simp (sym (c .before .moves .ensures) ∙ not-true _ (c .if1 .taken))
+
+wide-requires : tie.Need-wide-requires
+wide-requires c κs = search needs
+
+cloud-of-requires : tie.Need-cloud-of-requires
+cloud-of-requires c κs = search needs
+
+wide-requires-2 : tie.Need-wide-requires-2
+wide-requires-2 c κs = search needs
+
+cloud-at-requires : tie.Need-cloud-at-requires
+cloud-at-requires c κs = search needs
+
+wide-requires-3 : tie.Need-wide-requires-3
+wide-requires-3 c κs = search needs
+
+block-at-requires : tie.Need-block-at-requires
+block-at-requires c κs = search needs
+
+covers-requires : tie.Need-covers-requires
+covers-requires c κs = search needs
+
+returns-2 : tie.Need-returns-2
+unfolding exposes
+returns-2 c = simp ((sym (c .before .before .before .before .before .before .before .before .moves .ensures) ∙ not-false _ (c .before .before .before .before .before .before .before .if1 .left)), c .covers .ensures, c .before .before .before .cloud-at .ensures, c .before .block-at .ensures, c .before .before .before .before .wide2 .ensures, c .before .before .before .before .before .cloud-of .ensures, c .before .before .before .before .before .before .wide .ensures, c .before .before .wide3 .ensures)
+
+pub exposes-spec : {M : Type 1} → statement M
+exposes-spec =
+    tie.close
+    (tie.spec
+    moves-requires
+    returns
+    wide-requires
+    cloud-of-requires
+    wide-requires-2
+    cloud-at-requires
+    wide-requires-3
+    block-at-requires
+    covers-requires
+    returns-2)

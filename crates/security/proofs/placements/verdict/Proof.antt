@@ -1,0 +1,80 @@
+-- Each return by what the searches before it found.
+use mathlib.Core.Path.{sym, ap, _∙_}
+use Rattle.security.specs.Answers.{judgeAnswer, foundIn}
+use Rattle.security.specs.Placements.{judge}
+use borrow.Author.Needs.{needs}
+use Rattle.security.proofs.placements.verdict.Statement.{statement}
+use Rattle.security.proofs.placements.verdict.Tie as tie
+
+first-bad-position-requires : tie.Need-first-bad-position-requires
+first-bad-position-requires c κs = search needs
+
+enum-known-position : tie.Need-enum-known-position
+enum-known-position c = search needs
+
+unfit-requires : tie.Need-unfit-requires
+unfit-requires c κs = search needs
+
+returns : tie.Need-returns
+unfolding judge
+returns c = ap judgeAnswer (c .unfit .ensures) ∙ (simp (sym (c .before .before .before .before .first-bad-position .ensures) ∙ ap foundIn (c .before .before .position .given .1)))
+
+enum-told : tie.Need-enum-told
+enum-told c = search needs
+
+first-breaking-requires : tie.Need-first-breaking-requires
+first-breaking-requires c κs = search needs
+
+enum-known-read : tie.Need-enum-known-read
+enum-known-read c = search needs
+
+unfit-requires-2 : tie.Need-unfit-requires-2
+unfit-requires-2 c κs = search needs
+
+returns-2 : tie.Need-returns-2
+unfolding judge
+returns-2 c = ap judgeAnswer (c .unfit2 .ensures) ∙ (simp ((sym (c .before .before .before .before .before .before .before .first-bad-position .ensures) ∙ ap foundIn (c .before .before .before .before .before .enum-told .given .1)), (sym (c .before .before .before .before .first-breaking .ensures) ∙ ap foundIn (c .before .before .read .given .1))))
+
+enum-told-2 : tie.Need-enum-told-2
+enum-told-2 c = search needs
+
+first-breaking-requires-2 : tie.Need-first-breaking-requires-2
+first-breaking-requires-2 c κs = search needs
+
+enum-known-write : tie.Need-enum-known-write
+enum-known-write c = search needs
+
+unfit-requires-3 : tie.Need-unfit-requires-3
+unfit-requires-3 c κs = search needs
+
+returns-3 : tie.Need-returns-3
+unfolding judge
+returns-3 c = ap judgeAnswer (c .unfit3 .ensures) ∙ (simp ((sym (c .before .before .before .before .before .before .before .before .before .before .first-bad-position .ensures) ∙ ap foundIn (c .before .before .before .before .before .before .before .before .enum-told .given .1)), (sym (c .before .before .before .before .before .before .before .first-breaking .ensures) ∙ ap foundIn (c .before .before .before .before .before .enum-told2 .given .1)), (sym (c .before .before .before .before .first-breaking2 .ensures) ∙ ap foundIn (c .before .before .write .given .1))))
+
+enum-told-3 : tie.Need-enum-told-3
+enum-told-3 c = search needs
+
+returns-4 : tie.Need-returns-4
+unfolding judge
+returns-4 c = simp ((sym (c .before .before .before .before .before .before .before .before .first-bad-position .ensures) ∙ ap foundIn (c .before .before .before .before .before .before .enum-told .given .1)), (sym (c .before .before .before .before .before .first-breaking .ensures) ∙ ap foundIn (c .before .before .before .enum-told2 .given .1)), (sym (c .before .before .first-breaking2 .ensures) ∙ ap foundIn (c .enum-told3 .given .1)))
+
+pub verdict-spec : {M : Type 1} → statement M
+verdict-spec =
+    tie.close
+    (tie.spec
+    first-bad-position-requires
+    enum-known-position
+    unfit-requires
+    returns
+    enum-told
+    first-breaking-requires
+    enum-known-read
+    unfit-requires-2
+    returns-2
+    enum-told-2
+    first-breaking-requires-2
+    enum-known-write
+    unfit-requires-3
+    returns-3
+    enum-told-3
+    returns-4)

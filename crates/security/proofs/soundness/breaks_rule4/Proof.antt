@@ -1,0 +1,46 @@
+-- Each return by the tests that led there.
+use mathlib.Core.Path.{sym, _∙_}
+use borrow.Author.Tests.{not-true, not-false}
+use Rattle.security.specs.Soundness.{breaks4}
+use borrow.Author.Needs.{needs}
+use Rattle.security.proofs.soundness.breaks_rule4.Statement.{statement}
+use Rattle.security.proofs.soundness.breaks_rule4.Tie as tie
+
+is-write-requires : tie.Need-is-write-requires
+is-write-requires c κs = search needs
+
+returns : tie.Need-returns
+unfolding breaks4
+returns c = simp (sym (c .before .is-write .ensures) ∙ not-true _ (c .if1 .taken))
+
+wide-requires : tie.Need-wide-requires
+wide-requires c κs = search needs
+
+block-at-requires : tie.Need-block-at-requires
+block-at-requires c κs = search needs
+
+wide-requires-2 : tie.Need-wide-requires-2
+wide-requires-2 c κs = search needs
+
+block-at-requires-2 : tie.Need-block-at-requires-2
+block-at-requires-2 c κs = search needs
+
+covers-requires : tie.Need-covers-requires
+covers-requires c κs = search needs
+
+returns-2 : tie.Need-returns-2
+unfolding breaks4
+returns-2 c = simp ((sym (c .before .before .before .before .before .before .is-write .ensures) ∙ not-false _ (c .before .before .before .before .before .if1 .left)), c .covers .ensures, c .before .before .before .block-at .ensures, c .before .block-at2 .ensures, c .before .before .before .before .wide .ensures, c .before .before .wide2 .ensures)
+
+pub breaks-rule4-spec : {M : Type 1} → statement M
+breaks-rule4-spec =
+    tie.close
+    (tie.spec
+    is-write-requires
+    returns
+    wide-requires
+    block-at-requires
+    wide-requires-2
+    block-at-requires-2
+    covers-requires
+    returns-2)

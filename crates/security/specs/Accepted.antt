@@ -1,0 +1,16 @@
+-- What an accepted description keeps besides what decoding asks: rules 2 to 4, and the limit on candidates.
+use Prim.Native.Nat.{ℕ, _≤_}
+use mathlib.Core.Path.{_≡_}
+use mathlib.Core.List.{List}
+use mathlib.Core.Option.{none}
+use Rattle.description.specs.Format.{Description, decode}
+use Rattle.security.specs.Soundness.{breaks2, breaks3, breaks4, count}
+use Rattle.sequences.specs.Lists.{first}
+use Rattle.sequences.specs.Results.{ok}
+
+pub record Accepted (s : List ℕ) (d : Description) : Type 0 where
+  pub decoded : decode s ≡ ok d
+  pub rule2 : first breaks2 (d .blocks) ≡ none
+  pub rule3 : first (breaks3 d) (d .edges) ≡ none
+  pub rule4 : first (breaks4 d) (d .edges) ≡ none
+  pub few : count d ≤ 65536

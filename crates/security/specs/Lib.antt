@@ -1,0 +1,5 @@
+pub mod Accepted
+pub mod Answers
+pub mod Placements
+pub mod Soundness
+pub mod Statements

@@ -1,0 +1,54 @@
+-- What a placement must be, from the scope's rules themselves: plain orders and equations, and no test that the definitions use.
+use Prim.Native.Nat.{ℕ, _≤_, _<_}
+use mathlib.Core.Path.{_≡_}
+use mathlib.Core.List.{List}
+use lib.ListN.{length, getD}
+use Rattle.description.specs.declared.workflow.Pin.the-variants.{To}
+use Rattle.description.specs.declared.workflow.Way.{Way}
+use Rattle.description.specs.declared.workflow.Way.the-variants.{Reads, Writes}
+use Rattle.description.specs.declared.workflow.Edge.{Edge}
+use Rattle.description.specs.Format.{Description, block, edge}
+use Rattle.security.specs.Soundness.{blockLevel, cloudLevel}
+use Rattle.security.specs.Placements.{serviceCloud, datumCloud}
+
+-- Block b may stand on cloud k: k is declared, its level is at least the block's (rule 7), and the block's pin, if it has one, is
+-- to k.
+pub record Stands (d : Description) (b k : ℕ) : Type 0 where
+  pub declared : k < length (d .clouds)
+  pub rule7 : blockLevel d b ≤ cloudLevel d k
+  pub pin : (c : ℕ) → block d b .pin ≡ To c → c ≡ k
+
+-- Position b is good: its block stands where it may, and past the last block there is 0.
+pub record Good (d : Description) (p : List ℕ) (b : ℕ) : Type 0 where
+  pub stands : b < length (d .blocks) → Stands d b (getD p b 0)
+  pub beyond : length (d .blocks) ≤ b → getD p b 0 ≡ 0
+
+-- every position is good: no 13
+abbrev pub Placed : Description → List ℕ → Type 0
+Placed d p = (b : ℕ) → b < 16 → Good d p b
+
+-- An edge keeps the rule for its way, 16 for reads and 17 for writes: where the service is not on the datum's cloud, the service's
+-- cloud, which gets a copy, has at least the datum's level.
+abbrev pub Keeps : Way → Description → List ℕ → Edge → Type 0
+Keeps way d p e = e .way ≡ way → (serviceCloud p e ≡ datumCloud p e → ⊥) → blockLevel d (e .datum) ≤ cloudLevel d (serviceCloud p e)
+
+-- it breaks the rule
+pub record Breaks (way : Way) (d : Description) (p : List ℕ) (e : Edge) : Type 0 where
+  pub goes : e .way ≡ way
+  pub moves : serviceCloud p e ≡ datumCloud p e → ⊥
+  pub exposes : cloudLevel d (serviceCloud p e) < blockLevel d (e .datum)
+
+abbrev pub AllKeep : Way → Description → List ℕ → Type 0
+AllKeep way d p = (n : ℕ) → n < length (d .edges) → Keeps way d p (edge d n)
+
+-- edge n is the first that breaks the rule
+pub record FirstBreaks (way : Way) (d : Description) (p : List ℕ) (n : ℕ) : Type 0 where
+  pub declared : n < length (d .edges)
+  pub breaks : Breaks way d p (edge d n)
+  pub earlier : (i : ℕ) → i < n → Keeps way d p (edge d i)
+
+-- A secure placement: a candidate that keeps rules 16 and 17.
+pub record Secure (d : Description) (p : List ℕ) : Type 0 where
+  pub placed : Placed d p
+  pub rule16 : AllKeep Reads d p
+  pub rule17 : AllKeep Writes d p

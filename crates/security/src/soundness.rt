@@ -1,0 +1,156 @@
+// The rules on the workflow itself, where each block may stand, and how many candidates that makes.
+ghost use mathlib.Core.Path.{_≡_};
+ghost use Prim.Native.Nat.{_≤_};
+ghost use lib.ListN.{length};
+ghost use Rattle.sequences.specs.Lists.{first};
+ghost use Rattle.description.specs.Meaning.{describes};
+ghost use Rattle.security.specs.Answers.{foundIn};
+ghost use Rattle.security.specs.Soundness.{covers, clearanceOf, breaks2, breaks3, breaks4, pinAllows, mayStand, choicesOf, count};
+use crate::answers::Found;
+use description::decode::is_write;
+use description::decode::wide;
+use description::workflow::Block;
+use description::workflow::Edge;
+use description::workflow::Kind;
+use description::workflow::Pin;
+use description::workflow::Workflow;
+use description::workflow::block_at;
+use description::workflow::block_count;
+use description::workflow::cloud_at;
+use description::workflow::cloud_count;
+
+// One level is at least as high as another.
+pub fn covers(high: u8, low: u8) -> bool
+    ensures { λ r. ⌜ r ≡ covers high low ⌝ }
+{
+    low <= high
+}
+
+fn clearance_of(k: Kind) -> u8
+    ensures { λ r. ⌜ r ≡ clearanceOf k ⌝ }
+{
+    match k {
+        Kind::Datum {
+            size: _,
+            longevity: _,
+        } => 0,
+        Kind::Service {
+            clearance,
+            units: _,
+        } => clearance,
+    }
+}
+
+fn breaks_rule2(b: Block) -> bool
+    ensures { λ r. ⌜ r ≡ breaks2 b ⌝ }
+{
+    let location = b.level;
+    let k = b.kind;
+    match k {
+        Kind::Datum {
+            size: _,
+            longevity: _,
+        } => false,
+        Kind::Service {
+            clearance,
+            units: _,
+        } => !covers(clearance, location),
+    }
+}
+
+pub fn breaks_rule3(w: Workflow, e: Edge) -> bool
+    ensures { λ r. ⌜ r ≡ breaks3 (describes w) e ⌝ }
+{
+    let way = e.way;
+    if is_write(way) {
+        return false;
+    }
+    let service = block_at(w, wide(e.service));
+    let datum = block_at(w, wide(e.datum));
+    let k = service.kind;
+    !covers(clearance_of(k), datum.level)
+}
+
+pub fn breaks_rule4(w: Workflow, e: Edge) -> bool
+    ensures { λ r. ⌜ r ≡ breaks4 (describes w) e ⌝ }
+{
+    let way = e.way;
+    if !is_write(way) {
+        return false;
+    }
+    let service = block_at(w, wide(e.service));
+    let datum = block_at(w, wide(e.datum));
+    !covers(datum.level, service.level)
+}
+
+// The lowest block that breaks rule 2.
+pub fn first_breaking_rule2(w: Workflow) -> Found
+    ensures { λ r. ⌜ foundIn r ≡ first breaks2 (describes w .blocks) ⌝ }
+{
+    let n = block_count(w);
+    let mut i = 0;
+    while i < n {
+        if breaks_rule2(block_at(w, i)) {
+            return Found::At(i);
+        }
+        i += 1;
+    }
+    Found::Nothing
+}
+
+fn pin_allows(p: Pin, k: usize) -> bool
+    ensures { λ r. ⌜ r ≡ pinAllows p k ⌝ }
+{
+    match p {
+        Pin::Free => true,
+        Pin::To(c) => wide(c) == k,
+    }
+}
+
+// Position b may have cloud k: by rule 7 and the pin, and past the last block it has 0.
+pub fn may_stand(w: Workflow, b: usize, k: usize) -> bool
+    ensures { λ r. ⌜ r ≡ mayStand (describes w) b k ⌝ }
+{
+    if block_count(w) <= b {
+        return k == 0;
+    }
+    if cloud_count(w) <= k {
+        return false;
+    }
+    let block = block_at(w, b);
+    let cloud = cloud_at(w, k);
+    if !covers(cloud.level, block.level) {
+        return false;
+    }
+    let pin = block.pin;
+    pin_allows(pin, k)
+}
+
+// How many clouds position b may have.
+fn choice_count(w: Workflow, b: usize) -> u64
+    ensures { λ r. ⌜ r ≡ length (choicesOf (describes w) b) ⌝ }
+    ensures { λ r. ⌜ r ≤ 8 ⌝ }
+{
+    let mut n: u64 = 0;
+    let mut k = 0;
+    while k < 8 {
+        if may_stand(w, b, k) {
+            n += 1;
+        }
+        k += 1;
+    }
+    n
+}
+
+// How many candidates there are: at most 8 to the 16th power, so the product fits.
+pub fn candidate_count(w: Workflow) -> u64
+    ensures { λ r. ⌜ r ≡ count (describes w) ⌝ }
+{
+    let mut n: u64 = 1;
+    let mut b = 0;
+    while b < 16 {
+        n *= choice_count(w, b);
+        b += 1;
+    }
+    n
+}

@@ -1,0 +1,273 @@
+-- The tables of a well-formed description: they are what the walk asks for, a placement weighs by them what it weighs by the
+-- description, and the placements by them are the candidates.
+use Prim.Native.Nat.{ℕ, _+_, _-_, _*_, _/_, _%_, _^_, _≤_, _<_}
+use native.Mathlib.Nat.{zero-add}
+use native.Mathlib.Omega.{arith}
+use mathlib.Core.Path.{_≡_, refl, sym, ap, ap₂, _∙_}
+use mathlib.Core.Bool.{Bool, true, false, not, _&&_, cond}
+use mathlib.Core.List.{List, [], _∷_, _++_, map, List·Memᴰ}
+use lib.Dec.{ltb, lit<}
+use lib.ListN.{length, getD, length-map}
+use borrow.Author.Tests.{lt-ltb, le-ltb, ltb-true, ltb-false}
+use Rattle.description.specs.declared.workflow.Edge.{Edge}
+use Rattle.description.specs.Format.{Description, noEdge, edge, block, isDatum, namesBlock}
+use Rattle.description.specs.Invariants.{Limits, WellFormed, InRange}
+use Rattle.security.specs.Soundness.{mayStand, candidates}
+use Rattle.security.specs.Placements.{serviceCloud, datumCloud}
+use Rattle.costs.specs.Terms.{blockTerm, edgeTerm, weightOf}
+use Rattle.security.proofs.Candidates.{candidates-choices}
+use Rattle.sequences.specs.Lists.{from, below, keep, sum, sequences}
+use Rattle.sequences.proofs.Choices.{sequences-members}
+use Rattle.sequences.proofs.Counting.{length-below}
+use Rattle.sequences.proofs.Members.{keep-members, below-members, getD-map}
+use Rattle.sequences.proofs.Numbers.{kept-most}
+use Rattle.sequences.proofs.Positions.{everywhere}
+use Rattle.sequences.proofs.Tests.{both-pass, cond-ind}
+use Rattle.visiting.specs.Tables.{tables, allowed, bit, placements, ownTerm, edgeTerm as termIn, start, weight, Ready}
+use Rattle.tables.specs.Building.{maskOf, masksOf, ownOf, later, other, lateIn, edgesBefore, startsOf, orderOf, edgeIn, endOf, endsOf, termOf, hasClouds, termAt, termsOf, pairsOf, tablesOf, padded, joined, group}
+use Rattle.tables.proofs.Bits.{bit-bits}
+use Rattle.tables.proofs.Filling.{getD-table, table-all}
+use Rattle.tables.proofs.Groups.{keep-all, keep-cut, from-split, map-append, joined-grows, joined-count, regroup}
+use Rattle.tables.proofs.Indexing.{map-below, map-constant, index-map, getD-padded, sequences-padded}
+use Rattle.tables.proofs.Ordering.{order-before, order-at}
+use Rattle.tables.proofs.Paired.{paired}
+use Rattle.tables.proofs.Small.{block-small, term-small}
+
+-- ---- entries
+
+module _ (d : Description) where
+  -- where the edges of a later end begin
+  start-is : (k : ℕ) → k < 17 → start (tablesOf d) k ≡ edgesBefore d k
+  unfolding start tablesOf startsOf
+  start-is k h = getD-table 17 (edgesBefore d) k h
+
+  -- the two ends of the edge at a place
+  first-end : (i : ℕ) → i < 32 → getD (tablesOf d .ends) (2 * i) 0 ≡ later (edgeIn d i)
+  unfolding tablesOf endsOf
+  first-end i h =
+      let q : 2 * i / 2 ≡ i = omega arith in
+      let r : 2 * i % 2 ≡ 0 = omega arith in
+      getD-table 64 (λ j. endOf (edgeIn d (j / 2)) (j % 2)) (2 * i) (omega arith) ∙ ap₂ (λ (a b : ℕ). endOf (edgeIn d a) b) q r
+
+  second-end : (i : ℕ) → i < 32 → getD (tablesOf d .ends) (2 * i + 1) 0 ≡ other (edgeIn d i)
+  unfolding tablesOf endsOf
+  second-end i h =
+      let q : (2 * i + 1) / 2 ≡ i = omega arith in
+      let r : (2 * i + 1) % 2 ≡ 1 = omega arith in
+      getD-table 64 (λ j. endOf (edgeIn d (j / 2)) (j % 2)) (2 * i + 1) (omega arith) ∙ ap₂ (λ (a b : ℕ). endOf (edgeIn d a) b) q r
+
+  -- what a block adds, and what the edge at a place adds
+  own-is : (q : List ℕ) (b : ℕ) → b < 16 → getD q b 0 < 8 → ownTerm (tablesOf d) q b ≡ blockTerm d b (getD q b 0)
+  unfolding ownTerm tablesOf ownOf
+  own-is q b h l =
+      let x = getD q b 0 in
+      let quo : (b * 8 + x) / 8 ≡ b = omega arith in
+      let rem : (b * 8 + x) % 8 ≡ x = omega arith in
+      getD-table 128 (λ i. blockTerm d (i / 8) (i % 8)) (b * 8 + x) (omega arith) ∙ ap₂ (blockTerm d) quo rem
+
+  entry-is : Limits d → (i x y : ℕ) → i < length (d .edges) → x < length (d .clouds) → y < length (d .clouds)
+      → getD (tablesOf d .terms) (i * 64 + x * 8 + y) 0 ≡ termOf d (edgeIn d i) x y
+  unfolding tablesOf termsOf
+  entry-is few i x y h l k =
+      let a : (i * 64 + x * 8 + y) / 64 ≡ i = omega (arith, few .clouds) in
+      let b : (i * 64 + x * 8 + y) / 8 % 8 ≡ x = omega (arith, few .clouds) in
+      let c : (i * 64 + x * 8 + y) % 8 ≡ y = omega (arith, few .clouds) in
+      getD-table 2048 (termAt d) (i * 64 + x * 8 + y) (omega (arith, few .edges, few .clouds)) ∙
+      rw (a, b, c) (simp (lt-ltb i (length (d .edges)) h, lt-ltb x (length (d .clouds)) l, lt-ltb y (length (d .clouds)) k))
+
+  -- by its own ends, the later one first or not
+  turned : (e : Edge) (q : List ℕ) → termOf d e (getD q (later e) 0) (getD q (other e) 0) ≡ edgeTerm d e (getD q (e .service) 0) (getD q (e .datum) 0)
+  unfolding termOf
+  turned e q = go (ltb (e .service) (e .datum))
+    where
+      go : (b : Bool) → cond b (edgeTerm d e (getD q (cond b (e .service) (e .datum)) 0) (getD q (cond b (e .datum) (e .service)) 0))
+          (edgeTerm d e (getD q (cond b (e .datum) (e .service)) 0) (getD q (cond b (e .service) (e .datum)) 0))
+          ≡ edgeTerm d e (getD q (e .service) 0) (getD q (e .datum) 0)
+      go true = refl
+      go false = refl
+
+  term-is : Limits d → (q : List ℕ) → ((b : ℕ) → getD q b 0 < length (d .clouds)) → (i : ℕ) → i < length (d .edges)
+      → termIn (tablesOf d) q i ≡ edgeTerm d (edgeIn d i) (getD q (edgeIn d i .service) 0) (getD q (edgeIn d i .datum) 0)
+  unfolding termIn
+  term-is few q there i h =
+      let i32 : i < 32 = omega (arith, few .edges) in
+      rw (first-end i i32, second-end i i32)
+      (entry-is few i (getD q (later (edgeIn d i)) 0) (getD q (other (edgeIn d i)) 0) h (there _) (there _) ∙ turned (edgeIn d i) q)
+
+-- tables that are each those of the description
+pub tables-are : (d : Description) {own terms ends starts masks pairs : List ℕ} → own ≡ ownOf d → terms ≡ termsOf d → ends ≡ endsOf d → starts ≡ startsOf d
+    → masks ≡ masksOf d → pairs ≡ pairsOf d → tables own terms ends starts masks pairs ≡ tablesOf d
+unfolding tablesOf
+tables-are d a b c e f g = cc
+
+-- the other end is not behind the later one
+other-least : (e : Edge) → other e ≤ later e
+other-least e = go (ltb (e .service) (e .datum)) refl
+  where
+    go : (b : Bool) → ltb (e .service) (e .datum) ≡ b → cond b (e .service) (e .datum) ≤ cond b (e .datum) (e .service)
+    go true h = let l = ltb-true (e .service) (e .datum) h in omega arith
+    go false h = ltb-false (e .service) (e .datum) h
+
+module _ (d : Description) (wf : WellFormed d) where
+  -- every later end is a block
+  late-low : (n : ℕ) → lateIn d n < length (d .blocks)
+  late-low = everywhere (λ (e : Edge). later e < length (d .blocks)) noEdge (d .edges) (wf .someBlock) (λ i h.
+      let s = ltb-true (edge d i .service) (length (d .blocks)) (both-pass (namesBlock d (edge d i .service)) (not (isDatum (block d (edge d i .service) .kind))) .0 (wf .service i h) .0) in
+      let t = ltb-true (edge d i .datum) (length (d .blocks)) (both-pass (namesBlock d (edge d i .datum)) (isDatum (block d (edge d i .datum) .kind)) .0 (wf .datum i h) .0) in
+      cond-ind (λ (x : ℕ). x < length (d .blocks)) (ltb (edge d i .service) (edge d i .datum)) (edge d i .datum) (edge d i .service) (λ _. t) (λ _. s))
+
+  -- all edges have later ends below the number of blocks, and at most 32 have them below any number
+  all-before : (k : ℕ) → length (d .blocks) ≤ k → edgesBefore d k ≡ length (d .edges)
+  all-before k h =
+      ap length (keep-all (λ n. ltb (lateIn d n) k) (λ n. lt-ltb (lateIn d n) k (omega (arith, late-low n))) (below (length (d .edges)))) ∙
+      length-below (length (d .edges))
+
+  few-before : (k : ℕ) → edgesBefore d k ≤ 32
+  few-before k = omega (arith, kept-most (λ n. ltb (lateIn d n) k) (below (length (d .edges))), length-below (length (d .edges)), wf .limits .edges)
+
+  earlier-ends : (k i : ℕ) → k ≤ length (d .blocks) → i < start (tablesOf d) k
+      → (getD (tablesOf d .ends) (2 * i) 0 < k) × (getD (tablesOf d .ends) (2 * i + 1) 0 ≤ getD (tablesOf d .ends) (2 * i) 0)
+  earlier-ends k i l h =
+      let k16 : k ≤ 16 = omega (arith, wf .limits .blocks) in
+      let j : i < edgesBefore d k = omega (arith, start-is d k (omega arith)) in
+      let i32 : i < 32 = omega (arith, few-before k) in
+      (rw (first-end d i i32) (order-before d k i k16 j), rw (first-end d i i32, second-end d i i32) (other-least (edgeIn d i)))
+
+  later-ends : (k i : ℕ) → k < length (d .blocks) → start (tablesOf d) k ≤ i → i < start (tablesOf d) (k + 1) → getD (tablesOf d .ends) (2 * i) 0 ≡ k
+  later-ends k i l g h =
+      let k16 : k < 16 = omega (arith, wf .limits .blocks) in
+      let a : edgesBefore d k ≤ i = omega (arith, start-is d k (omega arith)) in
+      let b : i < edgesBefore d (k + 1) = omega (arith, start-is d (k + 1) (omega arith)) in
+      let i32 : i < 32 = omega (arith, few-before (k + 1)) in
+      first-end d i i32 ∙ order-at d k i k16 a b
+
+  rising-starts : (k : ℕ) → k < length (d .blocks) → start (tablesOf d) k ≤ start (tablesOf d) (k + 1)
+  rising-starts k l =
+      let k16 : k < 16 = omega (arith, wf .limits .blocks) in
+      let m = length (d .edges) in
+      omega (arith, start-is d k (omega arith), start-is d (k + 1) (omega arith), joined-count (lateIn d) m k, joined-count (lateIn d) m (k + 1), joined-grows (group (lateIn d) m) k 1)
+
+  no-start : start (tablesOf d) 0 ≡ 0
+  unfolding joined
+  no-start = start-is d 0 (omega arith) ∙ sym (joined-count (lateIn d) (length (d .edges)) 0)
+
+  -- ---- what a placement weighs
+
+  -- the sum over the edges in the order of their later ends is the sum in edge order
+  edges-sum : (f : Edge → ℕ) → sum (map (λ i. f (edgeIn d i)) (below (length (d .edges)))) ≡ sum (map f (d .edges))
+  unfolding orderOf
+  edges-sum f =
+      let m = length (d .edges) in
+      let count : m ≡ length (orderOf d) = sym (all-before 16 (wf .limits .blocks)) ∙ sym (joined-count (lateIn d) m 16) in
+      ap (λ (n : ℕ). sum (map (λ i. f (edgeIn d i)) (below n))) count ∙
+      ap sum (index-map (λ n. f (edge d n)) (orderOf d) 0) ∙
+      regroup (lateIn d) (λ n. f (edge d n)) m 16 (λ e. omega (arith, late-low e, wf .limits .blocks)) ∙
+      ap sum (index-map f (d .edges) noEdge)
+
+  module _ (q : List ℕ) (there : (b : ℕ) → getD q b 0 < length (d .clouds)) where
+    own-sum : sum (map (ownTerm (tablesOf d) q) (below (length (d .blocks)))) ≡ sum (map (λ b. blockTerm d b (getD (padded d q) b 0)) (below (length (d .blocks))))
+    own-sum = ap sum (map-below (ownTerm (tablesOf d) q) (λ b. blockTerm d b (getD (padded d q) b 0)) (length (d .blocks)) (λ b h.
+        own-is d q b (omega (arith, wf .limits .blocks)) (omega (arith, there b, wf .limits .clouds)) ∙ ap (blockTerm d b) (sym (getD-padded q (16 - length (d .blocks)) b))))
+
+    -- what an edge adds at the placement
+    added : Edge → ℕ
+    added e = edgeTerm d e (serviceCloud (padded d q) e) (datumCloud (padded d q) e)
+
+    at-place : (i : ℕ) → i < length (d .edges) → termIn (tablesOf d) q i ≡ added (edgeIn d i)
+    unfolding added
+    at-place i h =
+        let z = 16 - length (d .blocks) in
+        term-is d (wf .limits) q there i h ∙
+        ap₂ (edgeTerm d (edgeIn d i)) (sym (getD-padded q z (edgeIn d i .service))) (sym (getD-padded q z (edgeIn d i .datum)))
+
+    edge-sum : sum (map (termIn (tablesOf d) q) (below (start (tablesOf d) (length (d .blocks))))) ≡ sum (map added (d .edges))
+    edge-sum =
+        let all : start (tablesOf d) (length (d .blocks)) ≡ length (d .edges) =
+        start-is d (length (d .blocks)) (omega (arith, wf .limits .blocks)) ∙ all-before (length (d .blocks)) (omega arith) in
+        ap (λ (n : ℕ). sum (map (termIn (tablesOf d) q) (below n))) all ∙
+        ap sum (map-below (termIn (tablesOf d) q) (λ i. added (edgeIn d i)) (length (d .edges)) at-place) ∙ edges-sum added
+
+    -- a placement of the blocks weighs by the tables what it weighs, as sixteen clouds, by the description
+    pub weights : weight (tablesOf d) (length (d .blocks)) q ≡ weightOf d (padded d q)
+    unfolding weight weightOf added
+    weights = ap₂ _+_ own-sum edge-sum
+
+  -- ---- where blocks stand
+
+  -- a block may stand by the tables where it may by the description
+  pub allowed-is : (b k : ℕ) → b < length (d .blocks) → k < 8 → allowed (tablesOf d) b k ≡ mayStand d b k
+  unfolding tablesOf masksOf maskOf
+  allowed-is b k h l =
+      ap (λ (m : ℕ). bit m k) (getD-table 16 (maskOf d) b (omega (arith, wf .limits .blocks)) ∙ simp (lt-ltb b (length (d .blocks)) h)) ∙
+      bit-bits (mayStand d b) 0 8 k l ∙ ap (mayStand d b) (zero-add k)
+
+  choices-are : (b : ℕ) → b < length (d .blocks) → keep (mayStand d b) (below 8) ≡ keep (allowed (tablesOf d) b) (below (length (d .clouds)))
+  unfolding mayStand
+  choices-are b h =
+      keep-cut (mayStand d b) (allowed (tablesOf d) b) (length (d .clouds)) 8 (wf .limits .clouds)
+      (λ k l. sym (allowed-is b k h (omega (arith, wf .limits .clouds))))
+      (λ k l m. simp (lt-ltb b (length (d .blocks)) h, le-ltb k (length (d .clouds)) l))
+
+  -- past the last block there is one choice
+  no-choice : (b : ℕ) → length (d .blocks) ≤ b → keep (mayStand d b) (below 8) ≡ 0 ∷ []
+  unfolding mayStand
+  no-choice b h = simp (le-ltb b (length (d .blocks)) h)
+
+  -- the placements by the tables, as sixteen clouds, are the candidates, in the same order
+  pub placements-are : map (padded d) (placements (tablesOf d) (length (d .clouds)) (length (d .blocks))) ≡ candidates d
+  unfolding placements
+  placements-are =
+      let n = length (d .blocks) in
+      let z = 16 - n in
+      let split : 16 ≡ n + z = omega (arith, wf .limits .blocks) in
+      let choices : ℕ → List ℕ = λ b. keep (mayStand d b) (below 8) in
+      sym (candidates-choices d ∙
+      ap (λ (k : ℕ). sequences (map choices (below k))) split ∙
+      ap (λ (l : List ℕ). sequences (map choices l)) (from-split 0 n z) ∙
+      ap sequences (map-append choices (below n) (from (0 + n) z) ∙
+      ap₂ _++_ (map-below choices (λ b. keep (allowed (tablesOf d) b) (below (length (d .clouds)))) n choices-are)
+      (map-constant choices (0 ∷ []) (0 + n) z (λ b l. no-choice b (omega arith)))) ∙
+      sequences-padded z (map (λ b. keep (allowed (tablesOf d) b) (below (length (d .clouds)))) (below n)))
+
+  -- a placement by the tables has a declared cloud for each block
+  pub placement-there : (q : List ℕ) → List·Memᴰ q (placements (tablesOf d) (length (d .clouds)) (length (d .blocks)))
+      → (length q ≡ length (d .blocks)) × ((b : ℕ) → getD q b 0 < length (d .clouds))
+  unfolding placements
+  placement-there q m =
+      let n = length (d .blocks) in
+      let choices : ℕ → List ℕ = λ b. keep (allowed (tablesOf d) b) (below (length (d .clouds))) in
+      let (size, at) = sequences-members 0 (map choices (below n)) q .0 m in
+      let count : length (map choices (below n)) ≡ n = length-map (below n) choices ∙ length-below n in (
+        size ∙ count,
+        everywhere (λ (x : ℕ). x < length (d .clouds)) 0 q (wf .someCloud) (λ b h.
+            let inside : b < length (below n) = omega (arith, size, count, length-below n) in
+            let chosen = rw (getD-map choices (below n) b 0 [] inside) at (at b (omega (arith, size))) in
+            below-members (length (d .clouds)) (getD q b 0) .0 (keep-members (allowed (tablesOf d) (getD (below n) b 0)) (below (length (d .clouds))) (getD q b 0) .0 chosen .0)),
+      )
+
+  -- ---- what the walk asks
+
+  module _ (r : InRange d) where
+    own-low : (i : ℕ) → getD (tablesOf d .own) i 0 < 2 ^ 49
+    unfolding tablesOf ownOf
+    own-low = table-all (λ (x : ℕ). x < 2 ^ 49) 128 (λ i. blockTerm d (i / 8) (i % 8)) (lit< tt) (λ i. block-small d r (i / 8) (i % 8))
+
+    terms-low : (i : ℕ) → getD (tablesOf d .terms) i 0 < 34 * 2 ^ 53
+    unfolding tablesOf termsOf
+    terms-low = table-all (λ (x : ℕ). x < 34 * 2 ^ 53) 2048 (termAt d) (lit< tt)
+        (λ i. cond-ind (λ (x : ℕ). x < 34 * 2 ^ 53) (ltb (i / 64) (length (d .edges)) && hasClouds (length (d .clouds)) i) (termOf d (edgeIn d (i / 64)) (i / 8 % 8) (i % 8)) 0
+        (λ _. term-small d r (edgeIn d (i / 64)) (i / 8 % 8) (i % 8)) (λ _. lit< tt))
+
+    -- the tables of a well-formed description whose numbers are in their ranges are as the walk asks
+    pub ready : Ready (tablesOf d) (length (d .blocks))
+    ready = record {
+      few = wf .limits .blocks;
+      earlier = earlier-ends;
+      later = later-ends;
+      rising = rising-starts;
+      none = no-start;
+      all = λ k l. omega (arith, start-is d k (omega (arith, wf .limits .blocks)), few-before k);
+      ownSmall = own-low;
+      termsSmall = terms-low;
+      paired = paired d wf;
+    }

@@ -1,0 +1,11 @@
+pub mod Bits
+pub mod Built
+pub mod EdgeSides
+pub mod Filling
+pub mod Groups
+pub mod Indexing
+pub mod Ordering
+pub mod Paired
+pub mod RowTest
+pub mod Scanning
+pub mod Small

@@ -1,0 +1,144 @@
+-- The data between one writer and one reader: their two services are blocks.
+use Prim.Native.Nat.{ℕ, zero, suc, _+_, _*_, _/_, _%_, _<_}
+use native.Mathlib.Omega.{arith}
+use mathlib.Core.Path.{_≡_, refl, sym, ap, ap₂, _∙_}
+use mathlib.Core.Logic.{_⊎_, inl, inr, ⊎-elim}
+use mathlib.Core.Bool.{Bool, true, false, not, _||_, cond}
+use mathlib.Core.List.{List, [], _∷_}
+use lib.Dec.{eqb}
+use lib.ListN.{length, getD}
+use borrow.Author.Tests.{ltb-true, eq-eqb, ne-eqb}
+use Rattle.description.specs.declared.workflow.Edge.{Edge}
+use Rattle.description.specs.declared.workflow.Way.{Way}
+use Rattle.description.specs.declared.workflow.Way.the-variants.{Reads, Writes}
+use Rattle.description.specs.Format.{Description, noEdge, edge, block, isDatum, namesBlock}
+use Rattle.description.specs.Invariants.{WellFormed}
+use Rattle.rules.specs.Options.{writersOf, readersOf}
+use Rattle.sequences.specs.Lists.{keep}
+use Rattle.sequences.proofs.Tests.{both-pass, cond-ind}
+use Rattle.visiting.specs.Tables.{Paired}
+use Rattle.tables.specs.Building.{isOf, onlyOf, only, ofPair, pairAt, pairsOf, tablesOf}
+use Rattle.tables.proofs.Filling.{getD-table}
+
+-- P holds of each element
+abbrev Every : {A : Type 0} → (A → Type 0) → List A → Type 0
+Every P [] = Unit {0}
+Every P (x ∷ xs) = P x × Every P xs
+
+module _ {A : Type 0} (P : A → Type 0) where
+  every-at : (z : A) (l : List A) → ((i : ℕ) → i < length l → P (getD l i z)) → Every P l
+  every-at z [] h = tt
+  every-at z (x ∷ l) h = (h 0 (omega arith), every-at z l (λ i k. h (suc i) (omega arith)))
+
+  every-kept : (t : A → Bool) (l : List A) → Every P l → Every P (keep t l)
+  every-kept t [] p = tt
+  every-kept t (x ∷ l) p = cond-ind (Every P) (t x) (x ∷ keep t l) (keep t l) (λ _. (p .0, every-kept t l (p .1))) (λ _. every-kept t l (p .1))
+
+-- the service of the only edge is 255 or low
+only-low : (n : ℕ) (es : List Edge) → Every (λ e. e .service < n) es → (onlyOf es ≡ 255) ⊎ (onlyOf es < n)
+only-low n [] p = inl refl
+only-low n (e ∷ []) p = inr (p .0)
+only-low n (e ∷ f ∷ es) p = inl refl
+
+-- a pair is 255 where one of the two is, and else the two
+pub pair-none : (a b r : ℕ) → (a ≡ 255) ⊎ (b ≡ 255) → ofPair a b r ≡ 255
+pair-none a b r h = go r (⊎-elim (λ p. inl (eq-eqb a 255 p)) (λ p. inr (eq-eqb b 255 p)) h)
+  where
+    none : (s t : Bool) (x : ℕ) → (s ≡ true) ⊎ (t ≡ true) → cond (s || t) 255 x ≡ 255
+    none true t x k = refl
+    none false true x k = refl
+    none false false x (inl k) = let z : _≡_ {A = ℕ} 0 1 = cc in absurd (omega arith)
+    none false false x (inr k) = let z : _≡_ {A = ℕ} 0 1 = cc in absurd (omega arith)
+
+    go : (r : ℕ) → (eqb a 255 ≡ true) ⊎ (eqb b 255 ≡ true) → ofPair a b r ≡ 255
+    go zero k = none (eqb a 255) (eqb b 255) a k
+    go (suc r) k = none (eqb a 255) (eqb b 255) b k
+
+module _ (a b : ℕ) (h : a ≡ 255 → ⊥) (k : b ≡ 255 → ⊥) where
+  pub pair-first : ofPair a b 0 ≡ a
+  pair-first = simp (ne-eqb a 255 h, ne-eqb b 255 k)
+
+  pub pair-second : ofPair a b 1 ≡ b
+  pair-second = simp (ne-eqb a 255 h, ne-eqb b 255 k)
+
+-- both of a pair are low where one of the two is
+both-low : (n a b : ℕ) → (a ≡ 255) ⊎ (a < n) → (b ≡ 255) ⊎ (b < n) → ofPair a b 0 < 16 → (ofPair a b 0 < n) × (ofPair a b 1 < n)
+both-low n a b (inl p) h l = absurd (let e = ap (λ (t : Bool). cond (t || eqb b 255) 255 a) (eq-eqb a 255 p) in omega arith)
+both-low n a b (inr p) (inl h) l = absurd (third (eqb a 255) (eqb b 255) (eq-eqb b 255 h) l)
+  where
+    third : (s t : Bool) → t ≡ true → cond (s || t) 255 a < 16 → ⊥
+    third true t e k = omega arith
+    third false true e k = omega arith
+    third false false e k = let z : _≡_ {A = ℕ} 0 1 = cc in omega arith
+both-low n a b (inr p) (inr h) l = go (eqb a 255 || eqb b 255) l
+  where
+    go : (t : Bool) → cond t 255 a < 16 → (cond t 255 a < n) × (cond t 255 b < n)
+    go true k = absurd (omega arith)
+    go false k = (p, h)
+
+-- of two lists that are not one edge each, one has 255
+either : (es fs : List Edge) → ((e f : Edge) → es ≡ e ∷ [] → fs ≡ f ∷ [] → ⊥) → (onlyOf es ≡ 255) ⊎ (onlyOf fs ≡ 255)
+either [] fs h = inl refl
+either (e ∷ e' ∷ es) fs h = inl refl
+either (e ∷ []) [] h = inr refl
+either (e ∷ []) (f ∷ f' ∷ fs) h = inr refl
+either (e ∷ []) (f ∷ []) h = absurd (h e f refl refl)
+
+module _ (d : Description) (wf : WellFormed d) where
+  services-low : Every (λ (e : Edge). e .service < length (d .blocks)) (d .edges)
+  services-low = every-at (λ (e : Edge). e .service < length (d .blocks)) noEdge (d .edges) (λ i h.
+      ltb-true (edge d i .service) (length (d .blocks)) (both-pass (namesBlock d (edge d i .service)) (not (isDatum (block d (edge d i .service) .kind))) .0 (wf .service i h) .0))
+
+  low : (way : Way) (m : ℕ) → (only d way m ≡ 255) ⊎ (only d way m < length (d .blocks))
+  low way m = only-low (length (d .blocks)) (keep (isOf way m) (d .edges)) (every-kept (λ (e : Edge). e .service < length (d .blocks)) (isOf way m) (d .edges) services-low)
+
+  -- the entries of datum m
+  pub first-of-pair : (m : ℕ) → m < 16 → getD (tablesOf d .pairs) (2 * m) 0 ≡ ofPair (only d Writes m) (only d Reads m) 0
+  unfolding tablesOf pairsOf
+  first-of-pair m h =
+      let q : 2 * m / 2 ≡ m = omega arith in
+      let r : 2 * m % 2 ≡ 0 = omega arith in
+      getD-table 32 (pairAt d) (2 * m) (omega arith) ∙ ap₂ (λ (a b : ℕ). ofPair (only d Writes a) (only d Reads a) b) q r
+
+  pub second-of-pair : (m : ℕ) → m < 16 → getD (tablesOf d .pairs) (2 * m + 1) 0 ≡ ofPair (only d Writes m) (only d Reads m) 1
+  unfolding tablesOf pairsOf
+  second-of-pair m h =
+      let q : (2 * m + 1) / 2 ≡ m = omega arith in
+      let r : (2 * m + 1) % 2 ≡ 1 = omega arith in
+      getD-table 32 (pairAt d) (2 * m + 1) (omega arith) ∙ ap₂ (λ (a b : ℕ). ofPair (only d Writes a) (only d Reads a) b) q r
+
+  -- a service of an edge is not 255
+  service-low : (way : Way) (m : ℕ) (e : Edge) → keep (isOf way m) (d .edges) ≡ e ∷ [] → e .service ≡ 255 → ⊥
+  service-low way m e k h =
+      let p = every-kept (λ (f : Edge). f .service < length (d .blocks)) (isOf way m) (d .edges) services-low in
+      let l : e .service < length (d .blocks) = (rw k at p) .0 in
+      omega (arith, wf .limits .blocks)
+
+  -- The entries of datum m: the services of its writer and of its reader, where it has one of each; else 255.
+  pub pair-is : (m : ℕ) → m < 16 → (e f : Edge) → writersOf d m ≡ e ∷ [] → readersOf d m ≡ f ∷ []
+      → (getD (tablesOf d .pairs) (2 * m) 0 ≡ e .service) × (getD (tablesOf d .pairs) (2 * m + 1) 0 ≡ f .service)
+  pair-is m l e f writer reader =
+      let a : only d Writes m ≡ e .service = ap onlyOf writer in
+      let b : only d Reads m ≡ f .service = ap onlyOf reader in
+      let low-a : only d Writes m ≡ 255 → ⊥ = λ p. service-low Writes m e writer (sym a ∙ p) in
+      let low-b : only d Reads m ≡ 255 → ⊥ = λ p. service-low Reads m f reader (sym b ∙ p) in (
+        first-of-pair m l ∙ pair-first (only d Writes m) (only d Reads m) low-a low-b ∙ a,
+        second-of-pair m l ∙ pair-second (only d Writes m) (only d Reads m) low-a low-b ∙ b,
+      )
+
+  pub no-pair : (m : ℕ) → m < 16 → ((e f : Edge) → writersOf d m ≡ e ∷ [] → readersOf d m ≡ f ∷ [] → ⊥)
+      → (getD (tablesOf d .pairs) (2 * m) 0 ≡ 255) × (getD (tablesOf d .pairs) (2 * m + 1) 0 ≡ 255)
+  no-pair m l h =
+      let one = either (writersOf d m) (readersOf d m) h in (
+        first-of-pair m l ∙ pair-none (only d Writes m) (only d Reads m) 0 one,
+        second-of-pair m l ∙ pair-none (only d Writes m) (only d Reads m) 1 one,
+      )
+
+  -- writers and readers are blocks
+  pub paired : Paired (tablesOf d) (length (d .blocks))
+  paired = record {
+    pairsSmall = λ m l h.
+        let m16 : m < 16 = omega (arith, wf .limits .blocks) in
+        rw (first-of-pair m m16, second-of-pair m m16)
+        (both-low (length (d .blocks)) (only d Writes m) (only d Reads m) (low Writes m) (low Reads m) (rw (first-of-pair m m16) at h));
+  }

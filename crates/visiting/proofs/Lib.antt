@@ -1,0 +1,4 @@
+pub mod Finding
+pub mod Rows
+pub mod Seeing
+pub mod Tallies
