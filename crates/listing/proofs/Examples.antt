@@ -3,7 +3,7 @@ use mathlib.Core.Path.{refl}
 use native.Mathlib.Omega.{arith}
 use Rattle.packing.specs.Packing.{digits as clouds}
 use Rattle.listing.specs.Lines.{digits, decimal}
-use Rattle.listing.specs.Batches.{wordsLine}
+use Rattle.listing.specs.RowLines.{wordsLine}
 use Rattle.listing.specs.Statements.{Examples}
 
 pub examples : Examples

@@ -1,4 +1,4 @@
-pub mod Batches
+pub mod RowLines
 pub mod Decimals
 pub mod Examples
 pub mod Making

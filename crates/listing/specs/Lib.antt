@@ -1,4 +1,4 @@
 pub mod Lines
-pub mod Batches
+pub mod RowLines
 pub mod Statements
 pub mod Making

@@ -1,11 +1,11 @@
--- What is proved of the lines: a decimal is read back and has no leading zero, no line is empty or longer than it is said here, batches
--- make up the whole list, and worked examples.
+-- What is proved of the lines: a decimal is read back and has no leading zero, no line is empty or longer than it is said here, and worked
+-- examples.
 use Prim.Native.Nat.{ℕ, _+_, _-_, _*_, _^_, _<_, _≤_}
 use mathlib.Core.Path.{_≡_}
 use mathlib.Core.List.{List, [], _∷_, _++_}
 use lib.ListN.{length, getD}
 use Rattle.listing.specs.Lines.{ascii, digit, decimal, rowLine, optionsLine, refusalLine}
-use Rattle.listing.specs.Batches.{wordsLine, linesOf, rowWords}
+use Rattle.listing.specs.RowLines.{wordsLine, linesOf}
 
 -- the number that digits stand for, behind digits that stand for `front`
 abbrev pub valueAfter : ℕ → List ℕ → ℕ
@@ -31,11 +31,8 @@ pub record Sizes : Type 0 where
   pub options : (count : ℕ) → count < 2 ^ 64 → Sized (optionsLine count) 29
   pub refusal : (number place : ℕ) → number < 2 ^ 8 → place < 2 ^ 64 → Sized (refusalLine number place) 33
 
-pub record Batches : Type 0 where
+pub record RowLines : Type 0 where
   pub line : (blocks cost place : ℕ) → blocks ≤ 16 → cost < 2 ^ 64 → Sized (wordsLine blocks cost place) 38
-  -- the lines of m rows, and behind them those of the n rows that come next, are the lines of all of them
-  pub behind : (blocks : ℕ) (words : List ℕ) (from m n : ℕ)
-      → linesOf blocks (rowWords words from (m + n)) ≡ linesOf blocks (rowWords words from m) ++ linesOf blocks (rowWords words (from + m) n)
 
 pub record Examples : Type 0 where
   pub zero : decimal 0 ≡ ascii "0"

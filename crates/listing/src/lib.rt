@@ -2,6 +2,7 @@
 ghost use mathlib.Core.Path.{_≡_};
 ghost use mathlib.Core.List.{[], _∷_, _++_};
 ghost use Prim.Native.Nat.{_+_, _≤_, _<_};
+ghost use lib.ListN.{length};
 ghost use Rattle.listing.specs.Lines.{digit, decimal, optionsLine, refusalLine, placed, placedEnd};
 ghost use Rattle.listing.specs.Making.{text};
 
@@ -92,11 +93,13 @@ fn put(line: Line, buffer: &mut [u8], at: usize) -> usize
 }
 
 // Each of these puts one line into the buffer from offset `at` on, and answers the offset behind it. Where the line does not fit,
-// nothing is written and the answer is `at`; no line is empty, so the answer tells the two apart. Each takes any arguments.
+// nothing is written and the answer is `at`; no line is empty, so the answer tells the two apart. Each takes any arguments, and says how much room is
+// always enough.
 
 pub fn put_options(count: u64, buffer: &mut [u8], at: usize) -> usize
     ensures { λ r. ⌜ r ≡ placedEnd (optionsLine count) (now (buffer .entry)) at ⌝ }
     ensures { λ r. ⌜ now (buffer .exit) ≡ placed (optionsLine count) (now (buffer .entry)) at ⌝ }
+    ensures { λ _. ⌜ length (optionsLine count) ≤ 29 ⌝ }
 {
     let line = word_before(*b"options ", decimal_before(count, newline()));
     put(line, buffer, at)
@@ -105,6 +108,7 @@ pub fn put_options(count: u64, buffer: &mut [u8], at: usize) -> usize
 pub fn put_refusal(number: u8, place: u64, buffer: &mut [u8], at: usize) -> usize
     ensures { λ r. ⌜ r ≡ placedEnd (refusalLine number place) (now (buffer .entry)) at ⌝ }
     ensures { λ r. ⌜ now (buffer .exit) ≡ placed (refusalLine number place) (now (buffer .entry)) at ⌝ }
+    ensures { λ _. ⌜ length (refusalLine number place) ≤ 33 ⌝ }
 {
     let places = byte_before(b' ', decimal_before(place, newline()));
     let line = word_before(*b"refused ", decimal_before(number as u64, places));

@@ -1,11 +1,11 @@
 // The lines of many rows at once, written where they stand: each byte goes to its own offset of the buffer, and is not moved again.
 ghost use mathlib.Core.Path.{_≡_};
-ghost use mathlib.Core.List.{_++_, map};
-ghost use Prim.Native.Nat.{_+_, _-_, _≤_, min};
-ghost use lib.ListN.{length, drop};
+ghost use mathlib.Core.List.{map};
+ghost use Prim.Native.Nat.{_+_, _≤_, min};
+ghost use lib.ListN.{length};
 ghost use Rattle.packing.specs.Packing.{digits as clouds};
 ghost use Rattle.listing.specs.Lines.{digit, decimal, written};
-ghost use Rattle.listing.specs.Batches.{wordsLine, batch, batchText};
+ghost use Rattle.listing.specs.RowLines.{wordsLine, rowsText};
 use crate::last_digit;
 
 // How many digits a number has in decimal.
@@ -79,35 +79,21 @@ fn smaller(m: usize, n: usize) -> usize
     if m < n { m } else { n }
 }
 
-// How many rows there are from row `from` on.
-fn rows_from(from: usize, rows: usize) -> usize
-    ensures { λ r. ⌜ r ≡ rows - from ⌝ }
-{
-    if from < rows { rows - from } else { 0 }
-}
-
-// Where a batch of rows ends: the row that comes next, and the offset behind the last line.
-pub struct Batch {
-    pub next: usize,
-    pub end: usize,
-}
-
-// Row k is words 2k and 2k + 1: its cost, and its placement as a packed number. The lines of the rows from row `from` on go to the start
-// of the buffer, as many as surely fit at 38 bytes a line, and what stands behind them stays. It takes any arguments: of a row that is not
-// there nothing is written, and above 16 blocks there are no more digits.
-pub fn put_rows(words: &[u64], blocks: usize, from: usize, buffer: &mut [u8]) -> Batch
-    ensures { λ r. ⌜ r .next ≡ from + batch (now (words .entry)) (now (buffer .entry)) from ⌝ }
-    ensures { λ r. ⌜ r .end ≡ length (batchText (now (words .entry)) blocks from (now (buffer .entry))) ⌝ }
-    ensures { λ r. ⌜ now (buffer .exit) ≡ batchText (now (words .entry)) blocks from (now (buffer .entry)) ++ drop (length (batchText (now (words .entry)) blocks from (now (buffer .entry)))) (now (buffer .entry)) ⌝ }
+// Row k is words 2k and 2k + 1: its cost, and its placement as a packed number. The lines of the rows go to the start of the buffer, as many
+// as surely fit at 38 bytes a line, and what stands behind them stays. The answer is the offset behind the last line. It takes any arguments:
+// a last word alone is no row, and above 16 blocks there are no more digits.
+pub fn put_rows(words: &[u64], blocks: usize, buffer: &mut [u8]) -> usize
+    ensures { λ r. ⌜ r ≡ length (rowsText (now (words .entry)) blocks (now (buffer .entry))) ⌝ }
+    ensures { λ r. ⌜ now (buffer .exit) ≡ written (rowsText (now (words .entry)) blocks (now (buffer .entry))) (now (buffer .entry)) 0 ⌝ }
 {
     let digits = positions(blocks);
-    let stop = from + smaller(rows_from(from, words.len() / 2), buffer.len() / 38);
-    let mut next = from;
+    let stop = smaller(words.len() / 2, buffer.len() / 38);
+    let mut next = 0;
     let mut end = 0;
     while next < stop {
         let word = next * 2;
         end = put_line(words[word], words[word + 1], digits, buffer, end);
         next += 1;
     }
-    Batch { next, end }
+    end
 }

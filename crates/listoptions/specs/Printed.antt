@@ -1,19 +1,31 @@
--- What `listoptions` prints for what the list comes to: the rows, and a last line.
+-- What `listoptions` prints for the bytes of a description: a line for each row, in the rows' order, and last how many there are; or why
+-- there are none.
 use Prim.Native.Nat.{ℕ}
-use mathlib.Core.List.{List}
-use Rattle.listing.specs.Lines.{optionsLine, refusalLine}
+use mathlib.Core.Path.{_≡_}
+use mathlib.Core.List.{List, [], _∷_, _++_}
+use lib.ListN.{length}
 use Rattle.sequences.specs.Results.{Result, ok, refused}
+use Rattle.description.specs.Format.{Description}
+use Rattle.security.specs.Soundness.{read}
+use Rattle.lister.specs.declared.Row.{Row}
+use Rattle.lister.specs.Rows.{rows}
+use Rattle.lister.specs.Interview.{m}
+use Rattle.listing.specs.Lines.{ascii, rowLine, optionsLine, refusalLine}
 
--- how many rows are printed, and how many digits each has
-abbrev pub rowsOf : Result (ℕ × ℕ) → ℕ
-rowsOf (ok extent) = extent .0
-rowsOf (refused number place) = 0
+-- the lines of rows, one behind the other
+abbrev pub rowLines : (blocks : ℕ) → List Row → List ℕ
+rowLines blocks [] = []
+rowLines blocks (r ∷ rs) = rowLine (r .cost) (r .placement) blocks ++ rowLines blocks rs
 
-abbrev pub blocksOf : Result (ℕ × ℕ) → ℕ
-blocksOf (ok extent) = extent .1
-blocksOf (refused number place) = 0
+abbrev pub printedFor : Result Description → List ℕ
+printedFor (ok d) = rowLines (length (d .blocks)) (rows d) ++ optionsLine (length (rows d))
+printedFor (refused number place) = refusalLine number place
 
--- the number of rows behind them, or why there are none
-abbrev pub lastLine : Result (ℕ × ℕ) → List ℕ
-lastLine (ok extent) = optionsLine (extent .0)
-lastLine (refused number place) = refusalLine number place
+unfoldable pub printed : List ℕ → List ℕ
+printed s = printedFor (read s)
+
+-- worked examples: the interview file, the end alone, and no input at all
+pub record Examples : Type 0 where
+  pub interview : printed m ≡ ascii "2820 11111\n2840 11110\n2920 11000\n2940 11001\n3020 11011\n3040 11010\noptions 6\n"
+  pub endAlone : printed (0 ∷ []) ≡ ascii "refused 8 1\n"
+  pub nothing : printed [] ≡ ascii "refused 1 0\n"

@@ -2,6 +2,7 @@
 use borrow.Author.Needs.{needs}
 use mathlib.Core.Path.{ap, _∙_}
 use Rattle.listing.specs.Lines.{placed, placedEnd}
+use Rattle.listing.proofs.Sizes.{sizes}
 use Rattle.listing.proofs.Making.{options-made}
 use Rattle.listing.proofs.put_options.Statement.{statement}
 use Rattle.listing.proofs.put_options.Tie as tie
@@ -24,10 +25,11 @@ same-length c = search needs
 returns : tie.Need-returns
 returns c =
     let call = c .before .before in
-    let args = call .before .before .before .before .before .before .before .before .args in
+    let start = call .before .before .before .before .before .before .before .before in
+    let args = start .args in
     let made = options-made (args .count) _ _ _ (call .before .before .before .before .newline .ensures .0) (call .before .before .before .decimal-before .ensures .0) (call .before .before .word-before .ensures .0) in (
       call .put .ensures .0 ∙ ap (λ l. placedEnd l (args .buffer .now) (args .at)) made,
-      call .put .ensures .1 ∙ ap (λ l. placed l (args .buffer .now) (args .at)) made,
+      (call .put .ensures .1 ∙ ap (λ l. placed l (args .buffer .now) (args .at)) made, sizes .options (args .count) (start .fits .count .fits) .few),
     )
 
 pub put-options-spec : {M : Type 1} → statement M

@@ -1,20 +1,29 @@
--- Each kind of answer has its last line.
-use Prim.Native.Nat.{ℕ}
+-- Each kind of answer has its last line, for which 33 bytes are enough.
+use Prim.Native.Nat.{ℕ, _+_, _≤_}
 use mathlib.Core.Path.{_≡_, sym, ap, subst}
 use mathlib.Core.List.{List}
+use native.Mathlib.Omega.{arith}
+use lib.ListN.{length}
+use borrow.Author.Needs.{needs}
+use borrow.Author.Tests.{le-leb}
 use Rattle.sequences.specs.Results.{Result}
 use Rattle.enumeration.specs.WholeList.{listAnswer}
-use Rattle.listing.specs.Lines.{placed, placedEnd}
-use Rattle.listoptions.specs.Printed.{lastLine}
-use borrow.Author.Needs.{needs}
+use Rattle.listing.specs.Lines.{placed, placedEnd, written}
+use Rattle.listoptions.specs.Making.{lastLine}
 use Rattle.listoptions.proofs.put_last.Statement.{statement}
 use Rattle.listoptions.proofs.put_last.Tie as tie
 
--- what holds of the last line of x holds of an answer that is x
-answered : {x y : Result (ℕ × ℕ)} (before after : List ℕ) (end : ℕ) → y ≡ x
-    → (end ≡ placedEnd (lastLine x) before 0) × (after ≡ placed (lastLine x) before 0)
-    → (end ≡ placedEnd (lastLine y) before 0) × (after ≡ placed (lastLine y) before 0)
-answered before after end e = subst (λ z. (end ≡ placedEnd (lastLine z) before 0) × (after ≡ placed (lastLine z) before 0)) (sym e)
+-- what was put where it fits
+fitted : (line before after : List ℕ) (at end most : ℕ) → at + 64 ≤ length before → most ≤ 64
+    → (end ≡ placedEnd line before at) × (after ≡ placed line before at) × (length line ≤ most) → (end ≡ at + length line) × (after ≡ written line before at)
+fitted line before after at end most h few (p, q, short) =
+    let fits = le-leb (at + length line) (length before) (omega arith) in (rw fits at p, rw fits at q)
+
+-- the same of an answer that is x
+answered : {x y : Result (ℕ × ℕ)} (before after : List ℕ) (at end : ℕ) → y ≡ x
+    → (end ≡ at + length (lastLine x)) × (after ≡ written (lastLine x) before at)
+    → (end ≡ at + length (lastLine y)) × (after ≡ written (lastLine y) before at)
+answered before after at end e = subst (λ z. (end ≡ at + length (lastLine z)) × (after ≡ written (lastLine z) before at)) (sym e)
 
 enum-known-listed : tie.Need-enum-known-listed
 enum-known-listed c = search needs
@@ -32,13 +41,21 @@ same-length : tie.Need-same-length
 same-length c = search needs
 
 returns : tie.Need-returns
-returns c = let p = c .before .before .put-options in answered (c .before .before .before .before .before .before .before .before .args .line .now) (p .last .1 .0) (p .result) (ap listAnswer (c .before .before .before .before .before .listed .given .1)) (p .ensures)
+returns c =
+    let p = c .before .before .put-options in
+    let s = c .before .before .before .before .before .before .before .before in
+    let listed = c .before .before .before .before .before .listed .given in
+    answered (s .args .text .now) (p .last .1 .0) (s .args .at) (p .result) (ap listAnswer (listed .1)) (fitted _ (s .args .text .now) (p .last .1 .0) (s .args .at) (p .result) 29 (s .pre) (omega arith) (p .ensures .0, p .ensures .1 .0, p .ensures .1 .1))
 
 same-length-2 : tie.Need-same-length-2
 same-length-2 c = search needs
 
 returns-2 : tie.Need-returns-2
-returns-2 c = let p = c .before .before .put-refusal in answered (c .before .before .before .before .before .before .before .before .args .line .now) (p .last .1 .1 .0) (p .result) (ap listAnswer (c .before .before .before .before .before .listed2 .given .1)) (p .ensures)
+returns-2 c =
+    let p = c .before .before .put-refusal in
+    let s = c .before .before .before .before .before .before .before .before in
+    let listed = c .before .before .before .before .before .listed2 .given in
+    answered (s .args .text .now) (p .last .1 .1 .0) (s .args .at) (p .result) (ap listAnswer (listed .1)) (fitted _ (s .args .text .now) (p .last .1 .1 .0) (s .args .at) (p .result) 33 (s .pre) (omega arith) (p .ensures .0, p .ensures .1 .0, p .ensures .1 .1))
 
 pub put-last-spec : {M : Type 1} → statement M
 put-last-spec =

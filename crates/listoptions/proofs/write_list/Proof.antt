@@ -1,41 +1,35 @@
--- The rows that are printed are words that the list left.
-use Prim.Native.Nat.{ℕ, _*_, min, _≤_}
+-- What is printed ends within the text.
+use Prim.Native.Nat.{_≤_}
 use native.Mathlib.Omega.{arith}
-use mathlib.Core.Path.{_≡_}
 use lib.ListN.{length, length-take}
-use Rattle.enumeration.specs.WholeList.{listAnswer}
-use Rattle.listoptions.proofs.Ends.{rows-within}
+use Rattle.listoptions.specs.Printed.{printed}
+use Rattle.listoptions.proofs.Printing.{text-within}
 use borrow.Author.Needs.{needs}
 use Rattle.listoptions.proofs.write_list.Statement.{statement}
 use Rattle.listoptions.proofs.write_list.Tie as tie
 
-list-requires : tie.Need-list-requires
-list-requires c κs = search needs
-
-extent-of-requires : tie.Need-extent-of-requires
-extent-of-requires c κs = search needs
-
--- the rows are within the words
-within : (c : tie.After-extent-of) → c .extent-of .result .rows * 2 ≤ length (c .before .before .before .before .before .before .before .before .before .before .before .args .rows .now)
+within : (c : tie.After-put-list) → c .put-list .result ≤ length (c .put-list .last .1 .1 .1 .0)
 within c =
-    let a = c .before .before .before .before .before .before .before .before .before .before .before .args in
-    let l = c .before .before .before .before .before .list in
-    omega (arith, c .extent-of .ensures .0, rows-within (a .description .now) (min (length (a .rows .now)) (length (a .scratch .now))) (listAnswer (l .result)) (l .ensures .0))
+    let args = c .before .before .before .before .before .before .before .before .args in
+    text-within (printed (args .description .now)) (args .text .now) (c .put-list .ensures .0) (c .put-list .ensures .1)
 
-mul-write-rows : tie.Need-mul-write-rows
-mul-write-rows c = omega (arith, within (c .before), c .before .before .before .before .before .before .before .before .before .before .before .before .good)
+put-list-requires : tie.Need-put-list-requires
+put-list-requires c κs = c .before .before .before .before .before .before .before .pre
 
-slice-reshare-prefix-write-rows : tie.Need-slice-reshare-prefix-write-rows
-slice-reshare-prefix-write-rows c = omega (arith, within (c .before), c .before .before .before .before .before .before .list .kept .1 .0)
+slice-reshare-prefix-write-all : tie.Need-slice-reshare-prefix-write-all
+slice-reshare-prefix-write-all c = within (c .before .before .before .before .before .before)
 
-slice-aggregate-write-rows : tie.Need-slice-aggregate-write-rows
-slice-aggregate-write-rows c = simp length-take (omega (arith, within (c .before .before), c .before .before .before .before .before .before .before .list .kept .1 .0))
+slice-aggregate-write-all : tie.Need-slice-aggregate-write-all
+slice-aggregate-write-all c = simp length-take (omega (arith, within (c .before .before .before .before .before .before .before)))
 
-write-rows-requires : tie.Need-write-rows-requires
-write-rows-requires c κs = search needs
+write-all-requires : tie.Need-write-all-requires
+write-all-requires c κs = search needs
 
-write-last-requires : tie.Need-write-last-requires
-write-last-requires c κs = search needs
+slice-aggregate-fail : tie.Need-slice-aggregate-fail
+slice-aggregate-fail c = search needs
+
+fail-requires : tie.Need-fail-requires
+fail-requires c κs = search needs
 
 same-length : tie.Need-same-length
 same-length c = search needs
@@ -43,14 +37,20 @@ same-length c = search needs
 same-length-2 : tie.Need-same-length-2
 same-length-2 c = search needs
 
-returns : tie.Need-returns
-returns c = search needs
-
 same-length-3 : tie.Need-same-length-3
 same-length-3 c = search needs
 
+returns : tie.Need-returns
+returns c = search needs
+
 same-length-4 : tie.Need-same-length-4
 same-length-4 c = search needs
+
+same-length-5 : tie.Need-same-length-5
+same-length-5 c = search needs
+
+same-length-6 : tie.Need-same-length-6
+same-length-6 c = search needs
 
 returns-2 : tie.Need-returns-2
 returns-2 c = search needs
@@ -59,16 +59,17 @@ pub write-list-spec : {M : Type 1} → statement M
 write-list-spec =
     tie.close
     (tie.spec
-    list-requires
-    extent-of-requires
-    mul-write-rows
-    slice-reshare-prefix-write-rows
-    slice-aggregate-write-rows
-    write-rows-requires
-    write-last-requires
+    put-list-requires
+    slice-reshare-prefix-write-all
+    slice-aggregate-write-all
+    write-all-requires
+    slice-aggregate-fail
+    fail-requires
     same-length
     same-length-2
-    returns
     same-length-3
+    returns
     same-length-4
+    same-length-5
+    same-length-6
     returns-2)

@@ -6,7 +6,7 @@ use mathlib.Core.List.{map}
 use Rattle.packing.specs.Packing.{digits as clouds}
 use Rattle.listing.specs.Lines.{digit}
 use Rattle.listing.proofs.Writing.{Filling, begun, filled-more, filled}
-use Rattle.listing.proofs.Batches.{last-cloud, clouds-size}
+use Rattle.listing.proofs.RowLines.{last-cloud, clouds-size}
 use Rattle.listing.proofs.rows.put_clouds.Statement.{statement}
 use Rattle.listing.proofs.rows.put_clouds.Tie as tie
 

@@ -4,7 +4,7 @@ use native.Mathlib.Omega.{arith}
 use borrow.Author.Needs.{needs}
 use mathlib.Core.Path.{_≡_, _∙_}
 use lib.ListN.{length, length-set}
-use Rattle.listing.proofs.Batches.{line-made, line-length}
+use Rattle.listing.proofs.RowLines.{line-made, line-length}
 use Rattle.listing.proofs.rows.put_line.Statement.{statement}
 use Rattle.listing.proofs.rows.put_line.Tie as tie
 

@@ -1,16 +1,16 @@
 -- The lines of many rows: how long a line is, of which parts it is, and that the lines of rows one behind the other are those of all.
-use Prim.Native.Nat.{ℕ, zero, suc, _+_, _-_, _*_, _/_, _%_, _≤_, _<_}
+use Prim.Native.Nat.{ℕ, zero, suc, _+_, _*_, _/_, _%_, _≤_, _<_, _^_}
 use native.Mathlib.Omega.{arith}
 use mathlib.Core.Path.{_≡_, sym, ap, _∙_}
 use mathlib.Core.List.{List, [], _∷_, _++_, map, append-nil, append-assoc, map-append}
 use lib.ListN.{length, getD, take, drop, set, length-append, length-map}
-use lib.Seq.{take-all, take-nil, drop-nil, drop-drop}
+use lib.Seq.{take-all, take-nil, drop-nil}
 use Rattle.sequences.proofs.Loops.{rest}
 use Rattle.packing.specs.Packing.{digits as clouds}
 use Rattle.packing.proofs.Digits.{digits-length}
 use Rattle.listing.specs.Lines.{digit, decimal, written}
-use Rattle.listing.specs.Batches.{wordsLine, linesOf, rowWords}
-use Rattle.listing.specs.Statements.{Batches}
+use Rattle.listing.specs.RowLines.{wordsLine, linesOf}
+use Rattle.listing.specs.Statements.{RowLines}
 use Rattle.listing.proofs.Decimals.{fits-word}
 use Rattle.listing.proofs.Writing.{then-text, then-byte}
 
@@ -68,38 +68,35 @@ taken-apart b (suc m) n (cost ∷ place ∷ l) =
     let line = wordsLine b cost place in
     rw (e, f) (ap (λ s. line ++ s) (taken-apart b m n l) ∙ sym (append-assoc line (linesOf b (take (m * 2) l)) (linesOf b (take (n * 2) (drop (m * 2) l)))))
 
-one-behind : (b : ℕ) (words : List ℕ) (from m n : ℕ)
-    → linesOf b (rowWords words from (m + n)) ≡ linesOf b (rowWords words from m) ++ linesOf b (rowWords words (from + m) n)
-one-behind b words from m n =
-    let e : from * 2 + m * 2 ≡ (from + m) * 2 = omega arith in
-    taken-apart b m n (drop (from * 2) words) ∙
-    ap (λ l. linesOf b (rowWords words from m) ++ linesOf b (take (n * 2) l))
-    (drop-drop (m * 2) (from * 2) words ∙ ap (λ (k : ℕ). drop k words) e)
-
 -- the line of one row
 one-row : (b : ℕ) (words : List ℕ) (row : ℕ) → row * 2 + 1 < length words
-    → linesOf b (rowWords words row 1) ≡ wordsLine b (getD words (row * 2) 0) (getD words (row * 2 + 1) 0)
+    → linesOf b (take 2 (drop (row * 2) words)) ≡ wordsLine b (getD words (row * 2) 0) (getD words (row * 2 + 1) 0)
 one-row b words row h =
     let cost = getD words (row * 2) 0 in
     let words-are = rest words 0 (row * 2) (omega arith) ∙ ap (λ l. cost ∷ l) (rest words 0 (row * 2 + 1) h) in
     ap (λ l. linesOf b (take 2 l)) words-are ∙ append-nil (wordsLine b cost (getD words (row * 2 + 1) 0))
 
 -- one row more
-pub next-row : (b : ℕ) (words : List ℕ) (from row : ℕ) → from ≤ row → row * 2 + 1 < length words
-    → linesOf b (rowWords words from (row + 1 - from)) ≡
-    linesOf b (rowWords words from (row - from)) ++ wordsLine b (getD words (row * 2) 0) (getD words (row * 2 + 1) 0)
-next-row b words from row h room =
-    let e : row + 1 - from ≡ row - from + 1 = omega arith in
-    let f : from + (row - from) ≡ row = omega arith in
-    ap (λ (n : ℕ). linesOf b (rowWords words from n)) e ∙ one-behind b words from (row - from) 1 ∙
-    ap (λ l. linesOf b (rowWords words from (row - from)) ++ l) (ap (λ (k : ℕ). linesOf b (rowWords words k 1)) f ∙ one-row b words row room)
+pub next-row : (b : ℕ) (words : List ℕ) (row : ℕ) → row * 2 + 1 < length words
+    → linesOf b (take ((row + 1) * 2) words) ≡ linesOf b (take (row * 2) words) ++ wordsLine b (getD words (row * 2) 0) (getD words (row * 2 + 1) 0)
+next-row b words row room =
+    taken-apart b row 1 words ∙ ap (λ l. linesOf b (take (row * 2) words) ++ l) (one-row b words row room)
 
-pub batches : Batches
-batches = record {
+-- lines of up to 38 bytes
+pub lines-few : (b : ℕ) (words : List ℕ) → b ≤ 16 → ((i : ℕ) → getD words i 0 < 2 ^ 64) → length (linesOf b words) ≤ 38 * (length words / 2)
+lines-few b [] h w = omega arith
+lines-few b (cost ∷ []) h w = omega arith
+lines-few b (cost ∷ place ∷ words) h w =
+    let line = wordsLine b cost place in
+    let n = fits-word cost (w 0) in
+    let e = line-length b cost place in
+    omega (arith, length-append line (linesOf b words), lines-few b words h (λ i. w (suc (suc i))))
+
+pub row-lines : RowLines
+row-lines = record {
   line =
       λ blocks cost place h l.
       (let n = fits-word cost l in
       let e = line-length blocks cost place in
       record { some = omega arith; few = omega arith });
-  behind = one-behind;
 }

@@ -1,0 +1,21 @@
+-- The examples of `specs/Printed.antt`: by computation from the bytes.
+use mathlib.Core.Path.{refl}
+use Rattle.description.specs.Format.{decode}
+use Rattle.security.specs.Soundness.{covers, breaks2, breaks3, breaks4, mayStand, choicesOf, candidates, count, sound, read}
+use Rattle.security.specs.Placements.{moves, exposes, breaks16, breaks17, badPosition, judge}
+use Rattle.costs.specs.Transfers.{transfers}
+use Rattle.costs.specs.Cost.{gigabytes, cost}
+use Rattle.rules.specs.Options.{option, sameOption}
+use Rattle.lister.specs.Rows.{securePlacements, stands, rows}
+use Rattle.listing.specs.Lines.{digits, decimal}
+use Rattle.listoptions.specs.Printed.{printed, Examples}
+
+pub examples : Examples
+unfolding
+    printed decode
+    read sound breaks2 breaks3 breaks4 mayStand covers choicesOf count candidates
+    judge badPosition breaks16 breaks17 exposes moves
+    transfers cost gigabytes option sameOption
+    securePlacements stands rows
+    decimal digits
+examples = record { interview = refl; endAlone = refl; nothing = refl }
