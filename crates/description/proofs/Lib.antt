@@ -1,5 +1,6 @@
 pub mod Arrays
 pub mod Commands
+pub mod Front
 pub mod Limits
 pub mod Outcomes
 pub mod Reading

@@ -10,7 +10,7 @@ use Rattle.sequences.specs.Results.{Result, ok, refused}
 use Rattle.description.specs.Bytes.{Bytes}
 use Rattle.description.specs.Format.{Description}
 use Rattle.security.specs.Soundness.{read}
-use Rattle.security.proofs.Accepted.{accepted, read-wellFormed}
+use Rattle.security.proofs.Accepted.{accepted, read-wellFormed, read-front}
 use Rattle.packing.specs.Packing.{digits as clouds}
 use Rattle.packing.proofs.Digits.{digits-length}
 use Rattle.sorting.specs.Rows.{flat}
@@ -127,3 +127,8 @@ all-made s words text bytes h {answer} {after} {made₁} {made₂} {end₁} {end
 -- what is printed ends within the text
 pub text-within : (text old : List ℕ) {now : List ℕ} {end : ℕ} → end ≡ length text → now ≡ written text old 0 → end ≤ length now
 text-within text old e h = omega (arith, e, ap length h ∙ length-append text (drop (0 + length text) old))
+
+-- Of longer input the first 346 bytes decide what is printed, so that the program need not read more than its buffer takes.
+pub printed-front : (s : List ℕ) (n : ℕ) → 346 ≤ n → printed (take n s) ≡ printed s
+unfolding printed
+printed-front s n h = ap printedFor (read-front s n h)

@@ -1,17 +1,19 @@
 -- What Read accepts was decoded and keeps rules 2 to 4; so it is well formed, and its numbers are in their ranges.
-use Prim.Native.Nat.{ℕ}
-use mathlib.Core.Path.{_≡_, subst}
+use Prim.Native.Nat.{ℕ, _≤_}
+use mathlib.Core.Path.{_≡_, ap, subst}
 use mathlib.Core.List.{List}
 use mathlib.Core.Option.{none}
 use lib.Dec.{ltb}
+use lib.ListN.{take}
 use borrow.Author.Tests.{ltb-false}
 use Rattle.sequences.specs.Lists.{first}
-use Rattle.sequences.specs.Results.{ok}
+use Rattle.sequences.specs.Results.{ok, andThen}
 use Rattle.sequences.proofs.Tests.{cond-none}
 use Rattle.sequences.proofs.Results.{ok-inj, andThen-ok, unless-ok}
 use Rattle.description.specs.Format.{Description, decode}
 use Rattle.description.specs.Bytes.{Bytes}
 use Rattle.description.specs.Invariants.{WellFormed, InRange, Bounded}
+use Rattle.description.proofs.Front.{front-decides}
 use Rattle.description.proofs.Limits.{decoded-wellFormed, decoded-inRange}
 use Rattle.security.specs.Soundness.{breaks2, breaks3, breaks4, count, tooMany, sound, read}
 use Rattle.security.specs.Accepted.{Accepted}
@@ -42,3 +44,8 @@ module _ (s : List ℕ) (d : Description) (r : read s ≡ ok d) where
 
   pub read-bounded : Bytes s → Bounded d
   read-bounded h = record { limits = read-wellFormed .limits; inRange = read-inRange h }
+
+-- THE FIRST 346 BYTES DECIDE what Read answers
+pub read-front : (s : List ℕ) (n : ℕ) → 346 ≤ n → read (take n s) ≡ read s
+unfolding read
+read-front s n h = ap (λ r. andThen r sound) (front-decides s n h)
