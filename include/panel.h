@@ -5,7 +5,7 @@
  * A description is any bytes with their length. Nothing has to hold of them: what is wrong comes back as a refusal.
  *
  * Status. Every call answers 0, or a refusal as one word: its number in the low 8 bits (PANEL_NUMBER), its place in the other 56
- * (PANEL_PLACE). A place that did not fit would be the highest that does; none is ever that large.
+ * (PANEL_PLACE). Every place fits: none is above 131072.
  *
  *   number   what is wrong                                                          place
  *     1      the input stops within a command, or before the end command            offset of that command, or the length

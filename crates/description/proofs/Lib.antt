@@ -4,5 +4,6 @@ pub mod Front
 pub mod Limits
 pub mod Outcomes
 pub mod Reading
+pub mod Refusals
 pub mod Steps
 pub mod Turns

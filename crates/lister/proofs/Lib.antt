@@ -4,6 +4,7 @@ pub mod Drawing
 pub mod Interview
 pub mod ItemThree
 pub mod Joins
+pub mod Refusals
 pub mod RowOrder
 pub mod Standing
 pub mod Walked

@@ -1,2 +1,3 @@
+pub mod Statements
 pub mod Statuses
 pub mod Values

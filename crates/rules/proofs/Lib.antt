@@ -6,5 +6,6 @@ pub mod Moving
 pub mod Options
 pub mod Paths
 pub mod Reached
+pub mod Refusals
 pub mod Representatives
 pub mod Storage

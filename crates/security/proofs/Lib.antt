@@ -2,3 +2,4 @@ pub mod Accepted
 pub mod Candidates
 pub mod Deciding
 pub mod Judging
+pub mod Refusals

@@ -74,3 +74,8 @@ module _ {A : Type 0} (test : A → Bool) where
   -- where something is found, some element passes
   pub some-found : (xs : List A) (n : ℕ) → first test xs ≡ some n → any test xs ≡ true
   some-found xs n e = not-failed (any test xs) (λ f. Option·some-ne-none n (sym e ∙ none-found xs .1 f))
+
+-- what is found is a position of the list
+pub first-below : {A : Type 0} (test : A → Bool) (xs : List A) (n : ℕ) → first test xs ≡ some n → n < length xs
+first-below test [] n e = absurd (Option·some-ne-none n (sym e))
+first-below test (x ∷ xs) n e = first-some test x (x ∷ xs) n .0 e .0

@@ -1,11 +1,11 @@
 -- What a result that was made by `unless`, `cond` or `andThen` tells of its parts.
-use Prim.Native.Nat.{ℕ}
+use Prim.Native.Nat.{ℕ, _≤_, _<_}
 use native.Mathlib.Omega.{arith}
 use mathlib.Core.Path.{_≡_, refl, sym}
 use mathlib.Core.Logic.{_↔_}
 use mathlib.Core.Bool.{Bool, true, false, cond}
 use mathlib.Core.Option.{Option, none, some, Option·some-ne-none}
-use Rattle.sequences.specs.Results.{Result, ok, refused, unless, andThen}
+use Rattle.sequences.specs.Results.{Result, ok, refused, unless, andThen, Within}
 
 module _ {A : Type 0} where
   -- a result has one value
@@ -41,3 +41,25 @@ module _ {A B : Type 0} where
   pub andThen-ok : (r : Result A) (f : A → Result B) (b : B) → (andThen r f ≡ ok b) ↔ ((a : A) × (r ≡ ok a) × (f a ≡ ok b))
   andThen-ok (ok x) f b = (λ e. (x, refl, e), λ (a, e, h). let same : x ≡ a = cc in rw same h)
   andThen-ok (refused number place) f b = (λ e. absurd (ok-not-refused (sym e)), λ (a, e, h). absurd (ok-not-refused (sym e)))
+
+-- ---- numbers and places within bounds
+
+module _ {A : Type 0} (numbers places : ℕ) where
+  pub within-more : {n m : ℕ} → n ≤ numbers → m ≤ places → (r : Result A) → Within n m r → Within numbers places r
+  within-more h k (ok a) w = tt
+  within-more h k (refused number place) w = (w .0, omega arith, omega arith)
+
+  pub within-unless : (found : Option ℕ) (number : ℕ) (r : Result A) → 0 < number → number ≤ numbers
+      → ((place : ℕ) → found ≡ some place → place ≤ places) → Within numbers places r → Within numbers places (unless found number r)
+  within-unless none number r h k few w = w
+  within-unless (some place) number r h k few w = (h, k, few place refl)
+
+  pub within-cond : (test : Bool) (r q : Result A) → (test ≡ true → Within numbers places r) → (test ≡ false → Within numbers places q)
+      → Within numbers places (cond test r q)
+  within-cond true r q h k = h refl
+  within-cond false r q h k = k refl
+
+  pub within-andThen : {B : Type 0} (r : Result B) (f : B → Result A) → Within numbers places r
+      → ((b : B) → r ≡ ok b → Within numbers places (f b)) → Within numbers places (andThen r f)
+  within-andThen (ok b) f w next = next b refl
+  within-andThen (refused number place) f w next = w

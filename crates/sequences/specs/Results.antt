@@ -1,5 +1,5 @@
 -- A value or a refusal: what every call comes to.
-use Prim.Native.Nat.{ℕ}
+use Prim.Native.Nat.{ℕ, _≤_, _<_}
 use mathlib.Core.Option.{Option, none, some}
 
 -- a value, or a refusal: its number and its place
@@ -21,3 +21,8 @@ unless none number r = r
 abbrev pub andThen : {A B : Type 0} → Result A → (A → Result B) → Result B
 andThen (ok a) f = f a
 andThen (refused number place) f = refused number place
+
+-- a value, or a refusal whose number goes from 1 to `numbers` and whose place is at most `places`
+abbrev pub Within : {A : Type 0} → (numbers places : ℕ) → Result A → Type 0
+Within numbers places (ok a) = Unit {0}
+Within numbers places (refused number place) = (0 < number) × (number ≤ numbers) × (place ≤ places)

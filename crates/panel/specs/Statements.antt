@@ -1,0 +1,25 @@
+-- What a C program can rely on when it takes a status apart: 0 is no refusal, and of a refusal nothing is lost.
+use Prim.Native.Nat.{ℕ, _/_, _%_, _<_}
+use mathlib.Core.Path.{_≡_}
+use mathlib.Core.List.{List}
+use Rattle.sequences.specs.Results.{Result, ok, refused}
+use Rattle.rules.specs.Calls.{readCall, judgeCall, transfersCall}
+use Rattle.lister.specs.declared.Cursor.{Cursor}
+use Rattle.lister.specs.Calls.{censusCall, drawCall}
+use Rattle.enumeration.specs.WholeList.{listCall}
+use Rattle.panel.specs.Statuses.{status, refusalStatus}
+
+-- the status of an answer is 0; that of a refusal is not, its low 8 bits are the number, and the others are the place
+abbrev pub Readable : {A : Type 0} → Result A → Type 0
+Readable (ok a) = status (ok a) ≡ 0
+Readable (refused number place) =
+    (0 < refusalStatus number place) × (refusalStatus number place % 256 ≡ number) × (refusalStatus number place / 256 ≡ place)
+
+-- so it is with every call
+pub record NothingLost (s : List ℕ) : Type 0 where
+  pub read : Readable (readCall s)
+  pub judge : (p : List ℕ) → Readable (judgeCall s p)
+  pub transfers : (p : List ℕ) (room : ℕ) → Readable (transfersCall s p room)
+  pub census : Readable (censusCall s)
+  pub draw : (c : Cursor) → Readable (drawCall s c)
+  pub list : (room : ℕ) → Readable (listCall s room)

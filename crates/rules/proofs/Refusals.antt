@@ -1,0 +1,53 @@
+-- Which numbers Read, Judge and Transfers refuse with, and how high their places are.
+use Prim.Native.Nat.{ℕ, suc, _*_, _≤_}
+use native.Mathlib.Omega.{arith}
+use mathlib.Core.Path.{_≡_}
+use mathlib.Core.Bool.{Bool, true, false, cond}
+use mathlib.Core.List.{List, [], _∷_}
+use lib.ListN.{length}
+use lib.Dec.{ltb}
+use Rattle.sequences.specs.Results.{ok, refused, andThen, Within}
+use Rattle.sequences.proofs.Results.{within-more, within-cond, within-andThen}
+use Rattle.description.specs.declared.workflow.Edge.{Edge}
+use Rattle.description.specs.Format.{Description}
+use Rattle.security.specs.Soundness.{read}
+use Rattle.security.specs.Placements.{moves, judge}
+use Rattle.security.proofs.Accepted.{read-wellFormed}
+use Rattle.security.proofs.Refusals.{read-within, judged-within}
+use Rattle.costs.specs.Transfers.{transferOf, transfersFrom, transfers, bytesOf, fitted}
+use Rattle.costs.proofs.Transferring.{bytes-length}
+use Rattle.rules.specs.Calls.{countsOf, readCall, judgeCall, transfersCall}
+
+-- no more transfers than edges
+transfers-few : (n : ℕ) (p : List ℕ) (es : List Edge) → length (transfersFrom n p es) ≤ length es
+transfers-few n p [] = omega arith
+transfers-few n p (e ∷ es) = go (moves p e) (transfers-few (suc n) p es)
+  where
+    go : (b : Bool) → length (transfersFrom (suc n) p es) ≤ length es
+        → length (cond b (transferOf n p e ∷ transfersFrom (suc n) p es) (transfersFrom (suc n) p es)) ≤ suc (length es)
+    go true h = omega arith
+    go false h = omega arith
+
+module _ (s : List ℕ) where
+  pub readCall-within : Within 12 346 (readCall s)
+  unfolding readCall
+  readCall-within = within-andThen 12 346 (read s) (λ d. ok (countsOf d)) (read-within s) (λ d e. tt)
+
+  read-wider : (numbers : ℕ) → 12 ≤ numbers → Within numbers 346 (read s)
+  read-wider numbers h = within-more numbers 346 h (omega arith) (read s) (read-within s)
+
+  pub judgeCall-within : (p : List ℕ) → Within 15 346 (judgeCall s p)
+  unfolding judgeCall
+  judgeCall-within p = within-andThen 15 346 (read s) (λ d. judge d p) (read-wider 15 (omega arith)) (λ d e. judged-within s d e p)
+
+  pub transfersCall-within : (p : List ℕ) (n : ℕ) → Within 16 346 (transfersCall s p n)
+  unfolding transfersCall transfers
+  transfersCall-within p n =
+      within-andThen 16 346 (read s) (λ d. andThen (judge d p) (λ secure. fitted n (transfers d p))) (read-wider 16 (omega arith))
+      (λ d e. within-andThen 16 346 (judge d p) (λ secure. fitted n (transfers d p)) (within-more 16 346 (omega arith) (omega arith) (judge d p) (judged-within s d e p)) (λ secure _. short d e))
+    where
+      short : (d : Description) → read s ≡ ok d → Within 16 346 (fitted n (transfers d p))
+      short d e =
+          let ts = transfersFrom 0 p (d .edges) in
+          within-cond 16 346 (ltb n (length (bytesOf ts))) (refused 16 (length (bytesOf ts))) (ok ts)
+          (λ _. (omega arith, omega arith, omega (arith, bytes-length ts, transfers-few 0 p (d .edges), read-wellFormed s d e .limits .edges))) (λ _. tt)
