@@ -28,6 +28,13 @@ transfers-few n p (e ∷ es) = go (moves p e) (transfers-few (suc n) p es)
     go true h = omega arith
     go false h = omega arith
 
+-- 128 bytes hold the transfers of any placement
+pub transfers-room : (s : List ℕ) (d : Description) → read s ≡ ok d → (p : List ℕ) → length (bytesOf (transfers d p)) ≤ 128
+unfolding transfers
+transfers-room s d e p =
+    let ts = transfersFrom 0 p (d .edges) in
+    omega (arith, bytes-length ts, transfers-few 0 p (d .edges), read-wellFormed s d e .limits .edges)
+
 module _ (s : List ℕ) where
   pub readCall-within : Within 12 346 (readCall s)
   unfolding readCall
@@ -41,13 +48,13 @@ module _ (s : List ℕ) where
   judgeCall-within p = within-andThen 15 346 (read s) (λ d. judge d p) (read-wider 15 (omega arith)) (λ d e. judged-within s d e p)
 
   pub transfersCall-within : (p : List ℕ) (n : ℕ) → Within 16 346 (transfersCall s p n)
-  unfolding transfersCall transfers
+  unfolding transfersCall
   transfersCall-within p n =
       within-andThen 16 346 (read s) (λ d. andThen (judge d p) (λ secure. fitted n (transfers d p))) (read-wider 16 (omega arith))
       (λ d e. within-andThen 16 346 (judge d p) (λ secure. fitted n (transfers d p)) (within-more 16 346 (omega arith) (omega arith) (judge d p) (judged-within s d e p)) (λ secure _. short d e))
     where
       short : (d : Description) → read s ≡ ok d → Within 16 346 (fitted n (transfers d p))
       short d e =
-          let ts = transfersFrom 0 p (d .edges) in
+          let ts = transfers d p in
           within-cond 16 346 (ltb n (length (bytesOf ts))) (refused 16 (length (bytesOf ts))) (ok ts)
-          (λ _. (omega arith, omega arith, omega (arith, bytes-length ts, transfers-few 0 p (d .edges), read-wellFormed s d e .limits .edges))) (λ _. tt)
+          (λ _. (omega arith, omega arith, omega (arith, transfers-room s d e p))) (λ _. tt)
