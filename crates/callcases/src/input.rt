@@ -1,7 +1,7 @@
 // Standard input, by parts of a known length. A read that fails counts as the end of the input.
 ghost use Prim.Native.Nat.{_+_, _*_, _≤_};
 ghost use mathlib.Core.Path.{_≡_};
-ghost use lib.ListN.{length};
+ghost use lib.ListN.{length, drop};
 use libc::STDIN_FILENO;
 
 // A number in two bytes, most significant first.
@@ -29,8 +29,10 @@ pub fn read_all(bytes: &mut [u8]) -> bool {
     io::read_full(STDIN_FILENO, bytes) == wanted
 }
 
+// The same for the first bytes of a space; those behind them stay.
 pub fn read_front(space: &mut [u8], count: usize) -> bool
     requires { ⌜ count ≤ length (now space) ⌝ }
+    ensures { λ _. ⌜ drop count (now (space .exit)) ≡ drop count (now (space .entry)) ⌝ }
 {
     read_all(&mut space[..count])
 }

@@ -10,7 +10,7 @@ use lib.Dec.{ltb, eqb}
 use borrow.Author.Tests.{ltb-true, ltb-false, leb-false, not-false}
 use Rattle.sequences.specs.Lists.{any}
 use Rattle.sequences.proofs.Positions.{everywhere-snoc, everywhere-set}
-use Rattle.sequences.proofs.Tests.{cond-ind, cond-none, both-pass, or-fails}
+use Rattle.sequences.proofs.Tests.{cond-none, both-pass, or-fails}
 use Rattle.description.specs.declared.workflow.Cloud.{Cloud}
 use Rattle.description.specs.declared.workflow.Block.{Block}
 use Rattle.description.specs.declared.workflow.Kind.the-variants.{Datum, Service}
@@ -18,6 +18,7 @@ use Rattle.description.specs.declared.workflow.Pin.the-variants.{Free}
 use Rattle.description.specs.declared.workflow.Way.{Way}
 use Rattle.description.specs.declared.workflow.Way.the-variants.{Reads, Writes}
 use Rattle.description.specs.Format.{Description, noCloud, noBlock, cloud as Format·cloud, block as Format·block, pinned, withCloud, withBlock, withEdge, withPin, namesService, namesDatum, namesBlock, namesCloud, isPinned, clash, u8At, u16At, u32At, tooHigh, edgeIn, Command, cloudAt, datumAt, serviceAt, edgeAt, pinAt, unknown, commandAt, firstFault, faultOf}
+use Rattle.description.proofs.Turns.{each-command}
 
 -- the cloud and the blocks that a command declares
 abbrev pub cloudIn : List ℕ → Cloud
@@ -134,27 +135,17 @@ pub record Keeps (B : List ℕ → Type 0) (P : Description → Type 0) : Type 0
   pub edge : (w : Way) (s : List ℕ) (d : Description) → B s → P d → EdgeTaken s d w → P (withEdge d (edgeIn w s))
   pub pin : (s : List ℕ) (d : Description) → B s → P d → PinTaken s d → P (withPin d (u8At s 1) (u8At s 2))
 
--- the command keeps P where it is taken
-record Kept (P : Description → Type 0) (s : List ℕ) (c : Command) : Type 0 where
-  kept : faultOf s c ≡ none → P (c .after)
-
 module _ {B : List ℕ → Type 0} {P : Description → Type 0} (k : Keeps B P) where
-  -- the seven cases of a first byte, once
   pub keeps-command : (s : List ℕ) (d : Description) → B s → P d → faultOf s (commandAt s d) ≡ none → P (commandAt s d .after)
-  keeps-command s d b p = all .kept
-    where
-      first : (n : ℕ) (x y : Command) → (faultOf s x ≡ none → P (x .after)) → Kept P s y → Kept P s (cond (eqb (u8At s 0) n) x y)
-      first n x y f g = cond-ind (Kept P s) (eqb (u8At s 0) n) x y (λ _. record { kept = f }) (λ _. g)
-
-      all : Kept P s (commandAt s d)
-      all =
-          first 1 (cloudAt s d) _ (λ e. k .cloud s d b p (cloud-taken s d e))
-          (first 2 (datumAt s d) _ (λ e. k .datum s d b p (datum-taken s d e))
-          (first 3 (serviceAt s d) _ (λ e. k .service s d b p (service-taken s d e))
-          (first 4 (edgeAt Reads s d) _ (λ e. k .edge Reads s d b p (edge-taken s d Reads e))
-          (first 5 (edgeAt Writes s d) _ (λ e. k .edge Writes s d b p (edge-taken s d Writes e))
-          (first 6 (pinAt s d) (unknown d) (λ e. k .pin s d b p (pin-taken s d e))
-          (record { kept = λ e. p }))))))
+  keeps-command s d b p =
+      each-command (λ c. faultOf s c ≡ none → P (c .after)) s d
+      (λ e. k .cloud s d b p (cloud-taken s d e))
+      (λ e. k .datum s d b p (datum-taken s d e))
+      (λ e. k .service s d b p (service-taken s d e))
+      (λ e. k .edge Reads s d b p (edge-taken s d Reads e))
+      (λ e. k .edge Writes s d b p (edge-taken s d Writes e))
+      (λ e. k .pin s d b p (pin-taken s d e))
+      (λ e. p)
 
 -- ---- what holds of each cloud, and of each block whatever its pin
 

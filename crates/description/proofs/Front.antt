@@ -12,15 +12,15 @@ use lib.Seq.{take-all, getD-take}
 use lib.Dec.{ltb, eqb}
 use borrow.Author.Tests.{le-ltb}
 use Rattle.sequences.specs.Results.{Result, refused, andThen}
-use Rattle.sequences.proofs.Tests.{cond-ind, cond-none}
+use Rattle.sequences.proofs.Tests.{cond-none}
 use Rattle.description.specs.declared.workflow.Block.{Block}
 use Rattle.description.specs.declared.workflow.Pin.{Pin}
 use Rattle.description.specs.declared.workflow.Pin.the-variants.{Free, To}
 use Rattle.description.specs.declared.workflow.Way.{Way}
 use Rattle.description.specs.declared.workflow.Way.the-variants.{Reads, Writes}
-use Rattle.description.specs.Format.{Description, nothing, noBlock, pinned, isPinned, u8At, edgeIn, block, Command, cloudAt, datumAt, serviceAt, edgeAt, pinAt, unknown, commandAt, faultOf, firstFault, ended, readFrom, inhabited, decode}
+use Rattle.description.specs.Format.{Description, nothing, noBlock, pinned, isPinned, u8At, edgeIn, edgeAt, block, Command, commandAt, faultOf, firstFault, ended, readFrom, inhabited, decode}
 use Rattle.description.proofs.Commands.{cloudIn, datumIn, serviceIn, cloud-taken, datum-taken, service-taken, edge-taken, pin-taken}
-use Rattle.description.proofs.Turns.{ends, fails, goes}
+use Rattle.description.proofs.Turns.{each-command, width-positive, width-few, ends, fails, goes}
 
 -- three bytes for the pin of each block that has none
 abbrev pinsLeft : List Block → ℕ
@@ -47,41 +47,22 @@ pins-set (x ∷ l) zero k h e = rw e (omega arith)
 pins-set (x ∷ l) (suc i) k h e = let r = pins-set l i k (omega arith) e in omega arith
 
 -- a command that is taken uses up as many bytes as it has
-record Spent (s : List ℕ) (d : Description) (c : Command) : Type 0 where
-  spent : faultOf s c ≡ none → left (c .after) + c .width ≤ left d
-  some : 0 < c .width
-  few : c .width ≤ 10
-
-module _ (s : List ℕ) (d : Description) where
-  first : (n : ℕ) (x y : Command) → Spent s d x → Spent s d y → Spent s d (cond (eqb (u8At s 0) n) x y)
-  first n x y f g = cond-ind (Spent s d) (eqb (u8At s 0) n) x y (λ _. f) (λ _. g)
-
-  cloud : Spent s d (cloudAt s d)
-  cloud = record { spent = λ e. (let t = cloud-taken s d e in omega (arith, length-append (d .clouds) (cloudIn s ∷ []))); some = omega arith; few = omega arith }
-
-  datum : Spent s d (datumAt s d)
-  datum = record { spent = λ e. (let t = datum-taken s d e in omega (arith, length-append (d .blocks) (datumIn s ∷ []), pins-snoc (d .blocks) (datumIn s))); some = omega arith; few = omega arith }
-
-  service : Spent s d (serviceAt s d)
-  service = record { spent = λ e. (let t = service-taken s d e in omega (arith, length-append (d .blocks) (serviceIn s ∷ []), pins-snoc (d .blocks) (serviceIn s))); some = omega arith; few = omega arith }
-
-  edge : (w : Way) → Spent s d (edgeAt w s d)
-  edge w = record { spent = λ e. (let t = edge-taken s d w e in omega (arith, t .room, length-append (d .edges) (edgeIn w s ∷ []))); some = omega arith; few = omega arith }
-
-  pin : Spent s d (pinAt s d)
-  pin = record { spent = λ e. (let t = pin-taken s d e in omega (arith, length-set (d .blocks) (u8At s 1) (pinned (block d (u8At s 1)) (u8At s 2)), pins-set (d .blocks) (u8At s 1) (u8At s 2) (t .block) (t .free))); some = omega arith; few = omega arith }
-
-  other : Spent s d (unknown d)
-  other = record { spent = λ e. absurd (Option·some-ne-none 2 (cond-none (ltb (length s) 1) 1 (some 2) e .1)); some = omega arith; few = omega arith }
-
-  spends : Spent s d (commandAt s d)
-  spends =
-      first 1 (cloudAt s d) _ cloud
-      (first 2 (datumAt s d) _ datum
-      (first 3 (serviceAt s d) _ service
-      (first 4 (edgeAt Reads s d) _ (edge Reads)
-      (first 5 (edgeAt Writes s d) _ (edge Writes)
-      (first 6 (pinAt s d) (unknown d) pin other)))))
+spends : (s : List ℕ) (d : Description) → faultOf s (commandAt s d) ≡ none → left (commandAt s d .after) + commandAt s d .width ≤ left d
+spends s d =
+    each-command (λ c. faultOf s c ≡ none → left (c .after) + c .width ≤ left d) s d
+    (λ e. let t = cloud-taken s d e in omega (arith, length-append (d .clouds) (cloudIn s ∷ [])))
+    (λ e. let t = datum-taken s d e in omega (arith, length-append (d .blocks) (datumIn s ∷ []), pins-snoc (d .blocks) (datumIn s)))
+    (λ e. let t = service-taken s d e in omega (arith, length-append (d .blocks) (serviceIn s ∷ []), pins-snoc (d .blocks) (serviceIn s)))
+    (edge Reads)
+    (edge Writes)
+    (λ e.
+    let t = pin-taken s d e in
+    let x = pinned (block d (u8At s 1)) (u8At s 2) in
+    omega (arith, length-set (d .blocks) (u8At s 1) x, pins-set (d .blocks) (u8At s 1) (u8At s 2) (t .block) (t .free)))
+    (λ e. absurd (Option·some-ne-none 2 (cond-none (ltb (length s) 1) 1 (some 2) e .1)))
+  where
+    edge : (w : Way) → faultOf s (edgeAt w s d) ≡ none → left (edgeAt w s d .after) + 3 ≤ left d
+    edge w e = let t = edge-taken s d w e in omega (arith, t .room, length-append (d .edges) (edgeIn w s ∷ []))
 
 -- a command is what its first ten bytes say
 command-by : (s t : List ℕ) (d : Description) → ((i : ℕ) → i < 10 → u8At s i ≡ u8At t i) → commandAt s d ≡ commandAt t d
@@ -111,7 +92,7 @@ front [] n skip at d h k = absurd (omega arith)
 front (b ∷ rest) zero skip at d h k = absurd (omega arith)
 front (b ∷ rest) (suc n) (suc skip) at d h k = front rest n skip (suc at) d (omega arith) (omega arith)
 front (b ∷ rest) (suc n) zero at d h k =
-    one (eqb b 0) (faultOf long c) refl refl (λ e. front rest n (pred (c .width)) (suc at) (c .after) (omega arith) (enough n (c .width) (left d) (left (c .after)) k (spends long d .some) (spends long d .spent e)))
+    one (eqb b 0) (faultOf long c) refl refl (λ e. front rest n (pred (c .width)) (suc at) (c .after) (omega arith) (enough n (c .width) (left d) (left (c .after)) k (width-positive long d) (spends long d e)))
   where
     long : List ℕ
     long = b ∷ rest
@@ -127,7 +108,7 @@ front (b ∷ rest) (suc n) zero at d h k =
 
     unfaulted : faultOf short (commandAt short d) ≡ faultOf long c
     unfaulted =
-        let few = spends long d .few in
+        let few = width-few long d in
         let whole = le-ltb (length short) (c .width) (omega (arith, length-take n rest)) in
         ap (faultOf short) same ∙ ap (λ z. cond z (some 1) (firstFault (c .faults))) (whole ∙ sym (le-ltb (length long) (c .width) (omega arith)))
 

@@ -7,13 +7,11 @@ use mathlib.Core.List.{List, [], _∷_}
 use mathlib.Core.Option.{Option, none, some, Option·some-ne-none}
 use lib.ListN.{length, take, length-take}
 use lib.Dec.{ltb, eqb}
-use Rattle.sequences.specs.Results.{Result, ok, refused, Within}
+use Rattle.sequences.specs.Results.{Result, ok, refused, RefusalWithin}
 use Rattle.sequences.proofs.Results.{within-more, within-cond, within-andThen}
-use Rattle.sequences.proofs.Tests.{cond-ind}
-use Rattle.description.specs.declared.workflow.Way.the-variants.{Reads, Writes}
-use Rattle.description.specs.Format.{Description, nothing, u8At, Command, cloudAt, datumAt, serviceAt, edgeAt, pinAt, unknown, commandAt, firstFault, faultOf, ended, readFrom, inhabited, decode}
+use Rattle.description.specs.Format.{Description, nothing, Command, commandAt, firstFault, faultOf, ended, readFrom, inhabited, decode}
 use Rattle.description.proofs.Front.{front-decides}
-use Rattle.description.proofs.Turns.{ends, fails, goes}
+use Rattle.description.proofs.Turns.{each-command, ends, fails, goes}
 
 -- every number of the list is one of decoding's
 abbrev Numbered : List (ℕ × Bool) → Type 0
@@ -28,25 +26,24 @@ fault-number (f ∷ fs) n h e = go (f .1) e (fault-number fs n (h .2))
     go true q next = let same : f .0 ≡ n = cc in (omega arith, omega arith)
     go false q next = next q
 
--- the seven cases of a first byte
 numbered : (s : List ℕ) (d : Description) → Numbered (commandAt s d .faults)
 numbered s d =
-    let P : Command → Type 0 = λ c. Numbered (c .faults) in
-    either P 1 (cloudAt s d) _ (omega arith, omega arith, (omega arith, omega arith, tt))
-    (either P 2 (datumAt s d) _ (omega arith, omega arith, (omega arith, omega arith, tt))
-    (either P 3 (serviceAt s d) _ (omega arith, omega arith, (omega arith, omega arith, tt))
-    (either P 4 (edgeAt Reads s d) _ (omega arith, omega arith, (omega arith, omega arith, (omega arith, omega arith, tt)))
-    (either P 5 (edgeAt Writes s d) _ (omega arith, omega arith, (omega arith, omega arith, (omega arith, omega arith, tt)))
-    (either P 6 (pinAt s d) (unknown d) (omega arith, omega arith, (omega arith, omega arith, tt)) (omega arith, omega arith, tt))))))
+    each-command (λ c. Numbered (c .faults)) s d four-five four-five four-five four-six-seven four-six-seven six-seven (omega arith, omega arith, tt)
   where
-    either : (P : Command → Type 0) (n : ℕ) (x y : Command) → P x → P y → P (cond (eqb (u8At s 0) n) x y)
-    either P n x y p q = cond-ind P (eqb (u8At s 0) n) x y (λ _. p) (λ _. q)
+    four-five : (0 < 4) × (4 ≤ 8) × ((0 < 5) × (5 ≤ 8) × Unit {0})
+    four-five = (omega arith, omega arith, (omega arith, omega arith, tt))
 
-ended-within : (rest : List ℕ) (at : ℕ) (d : Description) → Within 8 (at + suc (length rest)) (ended rest (suc at) d)
+    six-seven : (0 < 6) × (6 ≤ 8) × ((0 < 7) × (7 ≤ 8) × Unit {0})
+    six-seven = (omega arith, omega arith, (omega arith, omega arith, tt))
+
+    four-six-seven : (0 < 4) × (4 ≤ 8) × ((0 < 6) × (6 ≤ 8) × ((0 < 7) × (7 ≤ 8) × Unit {0}))
+    four-six-seven = (omega arith, omega arith, six-seven)
+
+ended-within : (rest : List ℕ) (at : ℕ) (d : Description) → RefusalWithin 8 (at + suc (length rest)) (ended rest (suc at) d)
 ended-within [] at d = tt
 ended-within (b ∷ rest) at d = (omega arith, omega arith, omega arith)
 
-reading-within : (s : List ℕ) (skip at : ℕ) (d : Description) → Within 8 (at + length s) (readFrom s skip at d)
+reading-within : (s : List ℕ) (skip at : ℕ) (d : Description) → RefusalWithin 8 (at + length s) (readFrom s skip at d)
 reading-within [] skip at d = (omega arith, omega arith, omega arith)
 reading-within (b ∷ rest) (suc skip) at d = within-more 8 (at + suc (length rest)) (omega arith) (omega arith) (readFrom rest skip (suc at) d) (reading-within rest skip (suc at) d)
 reading-within (b ∷ rest) zero at d = one (eqb b 0) (faultOf s c) refl refl (reading-within rest (pred (c .width)) (suc at) (c .after))
@@ -57,24 +54,24 @@ reading-within (b ∷ rest) zero at d = one (eqb b 0) (faultOf s c) refl refl (r
     c : Command
     c = commandAt s d
 
-    one : (z : Bool) (f : Option ℕ) → eqb b 0 ≡ z → faultOf s c ≡ f → Within 8 (suc at + length rest) (readFrom rest (pred (c .width)) (suc at) (c .after))
-        → Within 8 (at + suc (length rest)) (readFrom s 0 at d)
-    one true f z q next = subst (Within 8 (at + suc (length rest))) (sym (ends b rest at d z)) (ended-within rest at d)
+    one : (z : Bool) (f : Option ℕ) → eqb b 0 ≡ z → faultOf s c ≡ f → RefusalWithin 8 (suc at + length rest) (readFrom rest (pred (c .width)) (suc at) (c .after))
+        → RefusalWithin 8 (at + suc (length rest)) (readFrom s 0 at d)
+    one true f z q next = subst (RefusalWithin 8 (at + suc (length rest))) (sym (ends b rest at d z)) (ended-within rest at d)
     one false (some n) z q next =
         let (low, high) = fault-number ((1, ltb (length s) (c .width)) ∷ c .faults) n (omega arith, omega arith, numbered s d) q in
-        subst (Within 8 (at + suc (length rest))) (sym (fails b rest at d z q)) (low, high, omega arith)
+        subst (RefusalWithin 8 (at + suc (length rest))) (sym (fails b rest at d z q)) (low, high, omega arith)
     one false none z q next =
-        subst (Within 8 (at + suc (length rest))) (sym (goes b rest at d z q))
+        subst (RefusalWithin 8 (at + suc (length rest))) (sym (goes b rest at d z q))
         (within-more 8 (at + suc (length rest)) (omega arith) (omega arith) (readFrom rest (pred (c .width)) (suc at) (c .after)) next)
 
-within-length : (s : List ℕ) → Within 8 (length s) (decode s)
+within-length : (s : List ℕ) → RefusalWithin 8 (length s) (decode s)
 unfolding decode
 within-length s =
     within-andThen 8 (length s) (readFrom s 0 0 nothing) (inhabited (length s))
     (within-more 8 (length s) (omega arith) (omega arith) (readFrom s 0 0 nothing) (reading-within s 0 0 nothing))
     (λ d e. within-cond 8 (length s) (eqb (length (d .clouds)) 0 || eqb (length (d .blocks)) 0) (refused 8 (length s)) (ok d) (λ _. (omega arith, omega arith, omega arith)) (λ _. tt))
 
-pub decode-within : (s : List ℕ) → Within 8 346 (decode s)
+pub decode-within : (s : List ℕ) → RefusalWithin 8 346 (decode s)
 decode-within s =
-    subst (Within 8 346) (front-decides s 346 (omega arith))
+    subst (RefusalWithin 8 346) (front-decides s 346 (omega arith))
     (within-more 8 346 (omega arith) (omega (arith, length-take 346 s)) (decode (take 346 s)) (within-length (take 346 s)))

@@ -4,7 +4,7 @@ use native.Mathlib.Omega.{arith}
 use mathlib.Core.List.{List}
 use lib.ListN.{length}
 use lib.Dec.{leb}
-use Rattle.sequences.specs.Results.{ok, refused, Within}
+use Rattle.sequences.specs.Results.{ok, refused, RefusalWithin}
 use Rattle.sequences.proofs.Results.{within-more, within-cond, within-andThen}
 use Rattle.description.specs.Bytes.{Bytes}
 use Rattle.description.specs.Format.{Description}
@@ -15,7 +15,7 @@ use Rattle.lister.specs.Rows.{rows}
 use Rattle.enumeration.specs.WholeList.{needed, listCall}
 use Rattle.enumeration.proofs.RowsInWords.{rows-few}
 
-pub listCall-within : (s : List ℕ) (room : ℕ) → Bytes s → Within 16 131072 (listCall s room)
+pub listCall-within : (s : List ℕ) (room : ℕ) → Bytes s → RefusalWithin 16 131072 (listCall s room)
 unfolding listCall
 listCall-within s room bytes =
     within-andThen 16 131072 (read s) _ (within-more 16 131072 (omega arith) (omega arith) (read s) (read-within s))

@@ -1,7 +1,7 @@
 -- Census and Draw refuse as Read does.
 use Prim.Native.Nat.{ℕ}
 use mathlib.Core.List.{List}
-use Rattle.sequences.specs.Results.{ok, Within}
+use Rattle.sequences.specs.Results.{ok, RefusalWithin}
 use Rattle.sequences.proofs.Results.{within-andThen}
 use Rattle.security.specs.Soundness.{read}
 use Rattle.security.proofs.Refusals.{read-within}
@@ -9,10 +9,10 @@ use Rattle.lister.specs.declared.Cursor.{Cursor}
 use Rattle.lister.specs.Rows.{census, draw}
 use Rattle.lister.specs.Calls.{censusCall, drawCall}
 
-pub censusCall-within : (s : List ℕ) → Within 12 346 (censusCall s)
+pub censusCall-within : (s : List ℕ) → RefusalWithin 12 346 (censusCall s)
 unfolding censusCall
 censusCall-within s = within-andThen 12 346 (read s) (λ d. ok (census d)) (read-within s) (λ d e. tt)
 
-pub drawCall-within : (s : List ℕ) (c : Cursor) → Within 12 346 (drawCall s c)
+pub drawCall-within : (s : List ℕ) (c : Cursor) → RefusalWithin 12 346 (drawCall s c)
 unfolding drawCall
 drawCall-within s c = within-andThen 12 346 (read s) (λ d. ok (draw d c)) (read-within s) (λ d e. tt)

@@ -3,7 +3,7 @@ use Prim.Native.Nat.{ℕ, _≤_}
 use native.Mathlib.Omega.{arith}
 use mathlib.Core.Path.{refl}
 use mathlib.Core.List.{List}
-use Rattle.sequences.specs.Results.{Result, ok, refused, Within}
+use Rattle.sequences.specs.Results.{Result, ok, refused, RefusalWithin}
 use Rattle.sequences.proofs.Results.{within-more}
 use Rattle.description.specs.Bytes.{Bytes}
 use Rattle.rules.specs.Calls.{readCall, judgeCall, transfersCall}
@@ -15,11 +15,11 @@ use Rattle.enumeration.proofs.Refusals.{listCall-within}
 use Rattle.panel.specs.Statements.{Readable, NothingLost}
 
 module _ {A : Type 0} where
-  readable : (r : Result A) → Within 16 131072 r → Readable r
+  readable : (r : Result A) → RefusalWithin 16 131072 r → Readable r
   readable (ok a) w = refl
   readable (refused number place) w = (omega arith, omega arith, omega arith)
 
-  sooner : (numbers : ℕ) → numbers ≤ 16 → (r : Result A) → Within numbers 346 r → Readable r
+  sooner : (numbers : ℕ) → numbers ≤ 16 → (r : Result A) → RefusalWithin numbers 346 r → Readable r
   sooner numbers h r w = readable r (within-more 16 131072 h (omega arith) r w)
 
 -- OF A REFUSAL NOTHING IS LOST

@@ -8,7 +8,7 @@ use mathlib.Core.Option.{Option, none, some, Option·some-ne-none}
 use lib.ListN.{length}
 use lib.Dec.{ltb}
 use Rattle.sequences.specs.Lists.{first}
-use Rattle.sequences.specs.Results.{ok, Within}
+use Rattle.sequences.specs.Results.{ok, RefusalWithin}
 use Rattle.sequences.proofs.First.{first-below}
 use Rattle.sequences.proofs.Results.{within-more, within-unless, within-andThen}
 use Rattle.description.specs.Format.{Description, decode}
@@ -24,7 +24,7 @@ of-few : {A : Type 0} (test : A → Bool) (xs : List A) → length xs ≤ 32 →
 of-few test xs h place e = omega (arith, first-below test xs place e)
 
 module _ (d : Description) (few : Limits d) where
-  sound-within : Within 12 346 (sound d)
+  sound-within : RefusalWithin 12 346 (sound d)
   unfolding sound
   sound-within =
       within-unless 12 346 (first breaks2 (d .blocks)) 9 _ (omega arith) (omega arith) (of-few breaks2 (d .blocks) (omega (arith, few .blocks)))
@@ -36,19 +36,19 @@ module _ (d : Description) (few : Limits d) where
       at-start true place e = let same : _≡_ {A = ℕ} 0 place = cc in omega arith
       at-start false place e = absurd (Option·some-ne-none place (sym e))
 
-  judge-within : (p : List ℕ) → Within 15 346 (judge d p)
+  judge-within : (p : List ℕ) → RefusalWithin 15 346 (judge d p)
   unfolding judge
   judge-within p =
       within-unless 15 346 (first (badPosition d p) positions) 13 _ (omega arith) (omega arith) (of-few (badPosition d p) positions (omega arith))
       (within-unless 15 346 (first (breaks16 d p) (d .edges)) 14 _ (omega arith) (omega arith) (of-few (breaks16 d p) (d .edges) (few .edges))
       (within-unless 15 346 (first (breaks17 d p) (d .edges)) 15 (ok tt) (omega arith) (omega arith) (of-few (breaks17 d p) (d .edges) (few .edges)) tt))
 
-pub read-within : (s : List ℕ) → Within 12 346 (read s)
+pub read-within : (s : List ℕ) → RefusalWithin 12 346 (read s)
 unfolding read
 read-within s =
     within-andThen 12 346 (decode s) sound (within-more 12 346 (omega arith) (omega arith) (decode s) (decode-within s))
     (λ d e. sound-within d (decoded-wellFormed s d e .limits))
 
 -- what judges a placement of an accepted description
-pub judged-within : (s : List ℕ) (d : Description) → read s ≡ ok d → (p : List ℕ) → Within 15 346 (judge d p)
+pub judged-within : (s : List ℕ) (d : Description) → read s ≡ ok d → (p : List ℕ) → RefusalWithin 15 346 (judge d p)
 judged-within s d a p = judge-within d (read-wellFormed s d a .limits) p

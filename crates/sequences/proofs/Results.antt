@@ -5,7 +5,7 @@ use mathlib.Core.Path.{_≡_, refl, sym}
 use mathlib.Core.Logic.{_↔_}
 use mathlib.Core.Bool.{Bool, true, false, cond}
 use mathlib.Core.Option.{Option, none, some, Option·some-ne-none}
-use Rattle.sequences.specs.Results.{Result, ok, refused, unless, andThen, Within}
+use Rattle.sequences.specs.Results.{Result, ok, refused, unless, andThen, RefusalWithin}
 
 module _ {A : Type 0} where
   -- a result has one value
@@ -45,21 +45,21 @@ module _ {A B : Type 0} where
 -- ---- numbers and places within bounds
 
 module _ {A : Type 0} (numbers places : ℕ) where
-  pub within-more : {n m : ℕ} → n ≤ numbers → m ≤ places → (r : Result A) → Within n m r → Within numbers places r
+  pub within-more : {n m : ℕ} → n ≤ numbers → m ≤ places → (r : Result A) → RefusalWithin n m r → RefusalWithin numbers places r
   within-more h k (ok a) w = tt
   within-more h k (refused number place) w = (w .0, omega arith, omega arith)
 
   pub within-unless : (found : Option ℕ) (number : ℕ) (r : Result A) → 0 < number → number ≤ numbers
-      → ((place : ℕ) → found ≡ some place → place ≤ places) → Within numbers places r → Within numbers places (unless found number r)
+      → ((place : ℕ) → found ≡ some place → place ≤ places) → RefusalWithin numbers places r → RefusalWithin numbers places (unless found number r)
   within-unless none number r h k few w = w
   within-unless (some place) number r h k few w = (h, k, few place refl)
 
-  pub within-cond : (test : Bool) (r q : Result A) → (test ≡ true → Within numbers places r) → (test ≡ false → Within numbers places q)
-      → Within numbers places (cond test r q)
+  pub within-cond : (test : Bool) (r q : Result A) → (test ≡ true → RefusalWithin numbers places r) → (test ≡ false → RefusalWithin numbers places q)
+      → RefusalWithin numbers places (cond test r q)
   within-cond true r q h k = h refl
   within-cond false r q h k = k refl
 
-  pub within-andThen : {B : Type 0} (r : Result B) (f : B → Result A) → Within numbers places r
-      → ((b : B) → r ≡ ok b → Within numbers places (f b)) → Within numbers places (andThen r f)
+  pub within-andThen : {B : Type 0} (r : Result B) (f : B → Result A) → RefusalWithin numbers places r
+      → ((b : B) → r ≡ ok b → RefusalWithin numbers places (f b)) → RefusalWithin numbers places (andThen r f)
   within-andThen (ok b) f w next = next b refl
   within-andThen (refused number place) f w next = w

@@ -23,6 +23,6 @@ andThen (ok a) f = f a
 andThen (refused number place) f = refused number place
 
 -- a value, or a refusal whose number goes from 1 to `numbers` and whose place is at most `places`
-abbrev pub Within : {A : Type 0} → (numbers places : ℕ) → Result A → Type 0
-Within numbers places (ok a) = Unit {0}
-Within numbers places (refused number place) = (0 < number) × (number ≤ numbers) × (place ≤ places)
+abbrev pub RefusalWithin : {A : Type 0} → (numbers places : ℕ) → Result A → Type 0
+RefusalWithin numbers places (ok a) = Unit {0}
+RefusalWithin numbers places (refused number place) = (0 < number) × (number ≤ numbers) × (place ≤ places)

@@ -1,5 +1,6 @@
--- The first bytes of a list that has as many are as many.
-use lib.ListN.{length-take}
+-- The first bytes of a list that has as many are as many, and what is read takes their place.
+use lib.ListN.{drop, length-take}
+use lib.Seq.{drop-at}
 use native.Mathlib.Omega.{arith}
 use borrow.Author.Needs.{needs}
 use Rattle.callcases.proofs.input.read_front.Statement.{statement}
@@ -18,7 +19,10 @@ same-length : tie.Need-same-length
 same-length c = search needs
 
 returns : tie.Need-returns
-returns c = search needs
+returns c =
+    let args = c .before .before .before .before .before .args in
+    let p = c .before .before .read-all in
+    drop-at (p .last .0) (drop (args .count) (args .space .now)) (args .count) (omega (arith, p .kept .0, length-take (args .count) (args .space .now), c .before .before .before .before .before .pre))
 
 pub read-front-spec : {M : Type 1} → statement M
 read-front-spec = tie.close (tie.spec slice-relend-prefix-read-all slice-aggregate-read-all read-all-requires same-length returns)
