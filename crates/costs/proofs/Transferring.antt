@@ -65,11 +65,15 @@ module _ (p : List ℕ) (es : List Edge) (b₀ : List ℕ) where
   begins = record { size = refl; inside = omega arith; done = refl; kept = refl }
 
   module _ (b : List ℕ) (at i : ℕ) (w : Writing b at i) where
+    pub ends-at : length es ≤ i → length (bytesOf (transfersFrom 0 p es)) ≡ at
+    ends-at h =
+        ap length (w .done ∙ ap (λ l. take at b ++ bytesOf (transfersFrom i p l)) (drop-of-length-le es h) ∙ append-nil (take at b)) ∙
+        length-take-le at b (w .inside)
+
     pub ends : length es ≤ i → b ≡ bytesOf (transfersFrom 0 p es) ++ drop (length (bytesOf (transfersFrom 0 p es))) b₀
     ends h =
         let all : bytesOf (transfersFrom 0 p es) ≡ take at b =
         w .done ∙ ap (λ l. take at b ++ bytesOf (transfersFrom i p l)) (drop-of-length-le es h) ∙ append-nil (take at b) in
-        let size : length (bytesOf (transfersFrom 0 p es)) ≡ at = ap length all ∙ length-take-le at b (w .inside) in
         rw (all, length-take-le at b (w .inside), ← w .kept) (sym (take-append-drop at b))
 
     module _ (h : i < length es) where

@@ -13,10 +13,10 @@ use crate::answers::Charge;
 use crate::transfer::destination_of;
 use crate::transfer::source_of;
 use description::decode::wide;
+use description::words::Words;
 use description::workflow::Cloud;
 use description::workflow::Edge;
 use description::workflow::Kind;
-use description::workflow::Workflow;
 use description::workflow::block_at;
 use description::workflow::block_count;
 use description::workflow::cloud_at;
@@ -88,8 +88,8 @@ fn amount_of(charge: Charge, c: Cloud, k: Kind) -> u64
 }
 
 // One charge on every block, where it stands.
-fn blocks_cost(charge: Charge, w: Workflow, placement: [u8; 16]) -> u64
-    ensures { λ r. ⌜ r ≡ ofBlocks (amountOf charge) (describes w) placement ⌝ }
+fn blocks_cost(charge: Charge, w: &Words, placement: [u8; 16]) -> u64
+    ensures { λ r. ⌜ r ≡ ofBlocks (amountOf charge) (describes (now (w .entry))) placement ⌝ }
     ensures { λ r. ⌜ r ≤ 16 * 281470681677825 ⌝ }
 {
     let n = block_count(w);
@@ -106,8 +106,8 @@ fn blocks_cost(charge: Charge, w: Workflow, placement: [u8; 16]) -> u64
 }
 
 // What the transfer of edge e is charged; 0 where it makes none.
-fn edge_cost(w: Workflow, placement: [u8; 16], e: Edge) -> u64
-    ensures { λ r. ⌜ r ≡ edgeCost (describes w) placement e ⌝ }
+fn edge_cost(w: &Words, placement: [u8; 16], e: Edge) -> u64
+    ensures { λ r. ⌜ r ≡ edgeCost (describes (now (w .entry))) placement e ⌝ }
     ensures { λ r. ⌜ r ≤ 859032780 ⌝ }
 {
     if !moves(placement, e) {
@@ -120,8 +120,8 @@ fn edge_cost(w: Workflow, placement: [u8; 16], e: Edge) -> u64
     (from.outward as u64 + to.inward as u64) * charged_of(kind)
 }
 
-fn transfers_cost(w: Workflow, placement: [u8; 16]) -> u64
-    ensures { λ r. ⌜ r ≡ sum (map (transferCost (describes w)) (transfers (describes w) placement)) ⌝ }
+fn transfers_cost(w: &Words, placement: [u8; 16]) -> u64
+    ensures { λ r. ⌜ r ≡ sum (map (transferCost (describes (now (w .entry)))) (transfers (describes (now (w .entry))) placement)) ⌝ }
     ensures { λ r. ⌜ r ≤ 32 * 859032780 ⌝ }
 {
     let n = edge_count(w);
@@ -135,8 +135,8 @@ fn transfers_cost(w: Workflow, placement: [u8; 16]) -> u64
 }
 
 // The whole cost, below 2^53.
-pub fn cost(w: Workflow, placement: [u8; 16]) -> u64
-    ensures { λ r. ⌜ r ≡ cost (describes w) placement ⌝ }
+pub fn cost(w: &Words, placement: [u8; 16]) -> u64
+    ensures { λ r. ⌜ r ≡ cost (describes (now (w .entry))) placement ⌝ }
     ensures { λ r. ⌜ r < 2 ^ 53 ⌝ }
 {
     let storage = blocks_cost(Charge::Storage, w, placement);

@@ -10,17 +10,17 @@ use crate::cost::charged_of;
 use crate::cost::cpu_of;
 use crate::cost::storage_of;
 use description::decode::is_write;
+use description::words::Words;
 use description::workflow::Block;
 use description::workflow::Cloud;
 use description::workflow::Way;
-use description::workflow::Workflow;
 use description::workflow::block_at;
 use description::workflow::cloud_at;
 use security::soundness::covers;
 
 // What block b is charged on cloud k.
-pub fn block_term(w: Workflow, b: usize, k: usize) -> u64
-    ensures { λ r. ⌜ r ≡ blockTerm (describes w) b k ⌝ }
+pub fn block_term(w: &Words, b: usize, k: usize) -> u64
+    ensures { λ r. ⌜ r ≡ blockTerm (describes (now (w .entry))) b k ⌝ }
     ensures { λ r. ⌜ r < 2 ^ 49 ⌝ }
 {
     let cloud = cloud_at(w, k);

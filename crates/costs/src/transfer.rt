@@ -1,6 +1,8 @@
 // The transfers of a placement, as bytes.
 ghost use mathlib.Core.Path.{_≡_};
+ghost use mathlib.Core.Bool.{cond};
 ghost use mathlib.Core.List.{[], _∷_, _++_};
+ghost use lib.Dec.{leb};
 ghost use Prim.Native.Nat.{_+_, _≤_};
 ghost use lib.ListN.{length, drop};
 ghost use lib.Seq.{sets};
@@ -13,9 +15,9 @@ ghost use Rattle.costs.specs.Transfers.{source, destination, transfers, 
 use crate::answers::Transferred;
 use description::decode::is_write;
 use description::decode::wide;
+use description::words::Words;
 use description::workflow::Edge;
 use description::workflow::Refusal;
-use description::workflow::Workflow;
 use description::workflow::edge_at;
 use description::workflow::edge_count;
 use security::answers::Verdict;
@@ -44,8 +46,8 @@ pub fn destination_of(placement: [u8; 16], e: Edge) -> u8
 }
 
 // How many edges move their datum.
-fn transfer_count(w: Workflow, placement: [u8; 16]) -> usize
-    ensures { λ r. ⌜ r ≡ length (transfers (describes w) placement) ⌝ }
+fn transfer_count(w: &Words, placement: [u8; 16]) -> usize
+    ensures { λ r. ⌜ r ≡ length (transfers (describes (now (w .entry))) placement) ⌝ }
     ensures { λ r. ⌜ r ≤ 32 ⌝ }
 {
     let n = edge_count(w);
@@ -76,9 +78,11 @@ fn put_transfer(placement: [u8; 16], i: u8, e: Edge, buffer: &mut [u8], at: usiz
     at + 4
 }
 
-fn put_transfers(w: Workflow, placement: [u8; 16], buffer: &mut [u8])
-    requires { ⌜ length (bytesOf (transfers (describes w) placement)) ≤ length (now buffer) ⌝ }
-    ensures { λ _. ⌜ now (buffer .exit) ≡ bytesOf (transfers (describes w) placement) ++ drop (length (bytesOf (transfers (describes w) placement))) (now (buffer .entry)) ⌝ }
+// All of them, from the front; the answer is how many.
+fn put_transfers(w: &Words, placement: [u8; 16], buffer: &mut [u8]) -> usize
+    requires { ⌜ length (bytesOf (transfers (describes (now w)) placement)) ≤ length (now buffer) ⌝ }
+    ensures { λ r. ⌜ r ≡ length (transfers (describes (now (w .entry))) placement) ⌝ }
+    ensures { λ _. ⌜ now (buffer .exit) ≡ bytesOf (transfers (describes (now (w .entry))) placement) ++ drop (length (bytesOf (transfers (describes (now (w .entry))) placement))) (now (buffer .entry)) ⌝ }
 {
     let n = edge_count(w);
     let mut at = 0;
@@ -87,28 +91,39 @@ fn put_transfers(w: Workflow, placement: [u8; 16], buffer: &mut [u8])
         at = put_transfer(placement, i, edge_at(w, wide(i)), buffer, at);
         i += 1;
     }
+    at / 4
+}
+
+// How many bytes the transfers need, where that is more than there is room for; otherwise 0. An edge makes one at most: only where room
+// is short for that they have to be counted first.
+fn missing(w: &Words, placement: [u8; 16], room: usize) -> usize
+    ensures { λ r. ⌜ r ≡ cond (leb (length (bytesOf (transfers (describes (now (w .entry))) placement))) room) 0 (length (bytesOf (transfers (describes (now (w .entry))) placement))) ⌝ }
+{
+    if edge_count(w) * 4 <= room {
+        return 0;
+    }
+    let needed = transfer_count(w, placement) * 4;
+    if needed <= room { 0 } else { needed }
 }
 
 // All transfers of a secure placement, or 16 with the room that they need.
-fn written(w: Workflow, placement: [u8; 16], buffer: &mut [u8]) -> Transferred
-    ensures { λ r. ⌜ transfersAnswer r ≡ andThen (fitted (length (now (buffer .entry))) (transfers (describes w) placement)) (λ ts. ok (length ts)) ⌝ }
-    ensures { λ r. ⌜ now (buffer .exit) ≡ bufferAfter (fitted (length (now (buffer .entry))) (transfers (describes w) placement)) (now (buffer .entry)) ⌝ }
+fn written(w: &Words, placement: [u8; 16], buffer: &mut [u8]) -> Transferred
+    ensures { λ r. ⌜ transfersAnswer r ≡ andThen (fitted (length (now (buffer .entry))) (transfers (describes (now (w .entry))) placement)) (λ ts. ok (length ts)) ⌝ }
+    ensures { λ r. ⌜ now (buffer .exit) ≡ bufferAfter (fitted (length (now (buffer .entry))) (transfers (describes (now (w .entry))) placement)) (now (buffer .entry)) ⌝ }
 {
-    let n = transfer_count(w, placement);
-    let needed = n * 4;
-    if buffer.len() < needed {
+    let needed = missing(w, placement, buffer.len());
+    if needed != 0 {
         return Transferred::Refused(Refusal {
             number: 16,
             place: needed,
         });
     }
-    put_transfers(w, placement, buffer);
-    Transferred::Count(n)
+    Transferred::Count(put_transfers(w, placement, buffer))
 }
 
-pub fn written_if_secure(w: Workflow, placement: [u8; 16], buffer: &mut [u8]) -> Transferred
-    ensures { λ r. ⌜ transfersAnswer r ≡ andThen (andThen (judge (describes w) placement) (λ secure. fitted (length (now (buffer .entry))) (transfers (describes w) placement))) (λ ts. ok (length ts)) ⌝ }
-    ensures { λ r. ⌜ now (buffer .exit) ≡ bufferAfter (andThen (judge (describes w) placement) (λ secure. fitted (length (now (buffer .entry))) (transfers (describes w) placement))) (now (buffer .entry)) ⌝ }
+pub fn written_if_secure(w: &Words, placement: [u8; 16], buffer: &mut [u8]) -> Transferred
+    ensures { λ r. ⌜ transfersAnswer r ≡ andThen (andThen (judge (describes (now (w .entry))) placement) (λ secure. fitted (length (now (buffer .entry))) (transfers (describes (now (w .entry))) placement))) (λ ts. ok (length ts)) ⌝ }
+    ensures { λ r. ⌜ now (buffer .exit) ≡ bufferAfter (andThen (judge (describes (now (w .entry))) placement) (λ secure. fitted (length (now (buffer .entry))) (transfers (describes (now (w .entry))) placement))) (now (buffer .entry)) ⌝ }
 {
     let v = verdict(w, placement);
     match v {

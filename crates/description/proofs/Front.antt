@@ -1,9 +1,9 @@
--- THE FIRST 346 BYTES DECIDE. Good commands fill at most 336 bytes, and no command has more than 10: whatever is read of a longer input, its
+-- THE FIRST BYTES DECIDE. Good commands fill at most 336 bytes, and no command has more than 10: whatever is read of a longer input, its
 -- first bad command, or its 00 with a byte behind it, lies within them.
 use Prim.Native.Nat.{ℕ, zero, suc, pred, _+_, _-_, _*_, _≤_, _<_}
 use native.Mathlib.Decide.{decLe}
 use native.Mathlib.Omega.{arith}
-use mathlib.Core.Path.{_≡_, refl, sym, ap, ap₂, _∙_}
+use mathlib.Core.Path.{_≡_, refl, sym, ap, _∙_}
 use mathlib.Core.Bool.{Bool, true, false, cond}
 use mathlib.Core.List.{List, [], _∷_, _++_}
 use mathlib.Core.Option.{Option, none, some, Option·some-ne-none}
@@ -13,9 +13,8 @@ use lib.Dec.{ltb, eqb}
 use borrow.Author.Tests.{le-ltb}
 use Rattle.sequences.specs.Results.{Result, refused, andThen}
 use Rattle.sequences.proofs.Tests.{cond-none}
+use Rattle.description.specs.Bytes.{decidingBytes}
 use Rattle.description.specs.declared.workflow.Block.{Block}
-use Rattle.description.specs.declared.workflow.Pin.{Pin}
-use Rattle.description.specs.declared.workflow.Pin.the-variants.{Free, To}
 use Rattle.description.specs.declared.workflow.Way.{Way}
 use Rattle.description.specs.declared.workflow.Way.the-variants.{Reads, Writes}
 use Rattle.description.specs.Format.{Description, nothing, noBlock, pinned, isPinned, u8At, edgeIn, edgeAt, block, Command, commandAt, faultOf, firstFault, ended, readFrom, inhabited, decode}
@@ -123,7 +122,7 @@ front (b ∷ rest) (suc n) zero at d h k =
         let (m, p, e, f) = next q in
         (m, p, goes b (take n rest) at d z (unfaulted ∙ q) ∙ ap (λ x. readFrom (take n rest) (pred (x .width)) (suc at) (x .after)) same ∙ e, goes b rest at d z q ∙ f)
 
-pub front-decides : (s : List ℕ) (n : ℕ) → 346 ≤ n → decode (take n s) ≡ decode s
+pub front-decides : (s : List ℕ) (n : ℕ) → decidingBytes ≤ n → decode (take n s) ≡ decode s
 unfolding decode
 front-decides s n h = go (decLe (length s) n)
   where

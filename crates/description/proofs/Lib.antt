@@ -1,8 +1,11 @@
 pub mod Arrays
 pub mod Commands
+pub mod Fields
 pub mod Front
 pub mod Limits
 pub mod Outcomes
+pub mod Parts
+pub mod Puts
 pub mod Reading
 pub mod Refusals
 pub mod Steps

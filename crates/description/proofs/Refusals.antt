@@ -1,5 +1,5 @@
--- Decoding refuses with numbers 1 to 8, at an offset of the input, and so, since the first 346 bytes decide, at 346 at most.
-use Prim.Native.Nat.{ℕ, zero, suc, pred, _+_, _≤_, _<_, min}
+-- Decoding refuses with numbers 1 to 8, at an offset of the input, and so, since the first bytes decide, at `decidingBytes` at most.
+use Prim.Native.Nat.{ℕ, zero, suc, pred, _+_, _≤_, _<_}
 use native.Mathlib.Omega.{arith}
 use mathlib.Core.Path.{_≡_, refl, sym, subst}
 use mathlib.Core.Bool.{Bool, true, false, cond, _||_}
@@ -7,8 +7,9 @@ use mathlib.Core.List.{List, [], _∷_}
 use mathlib.Core.Option.{Option, none, some, Option·some-ne-none}
 use lib.ListN.{length, take, length-take}
 use lib.Dec.{ltb, eqb}
-use Rattle.sequences.specs.Results.{Result, ok, refused, RefusalWithin}
+use Rattle.sequences.specs.Results.{ok, refused, RefusalWithin}
 use Rattle.sequences.proofs.Results.{within-more, within-cond, within-andThen}
+use Rattle.description.specs.Bytes.{decidingBytes}
 use Rattle.description.specs.Format.{Description, nothing, Command, commandAt, firstFault, faultOf, ended, readFrom, inhabited, decode}
 use Rattle.description.proofs.Front.{front-decides}
 use Rattle.description.proofs.Turns.{each-command, ends, fails, goes}
@@ -71,7 +72,7 @@ within-length s =
     (within-more 8 (length s) (omega arith) (omega arith) (readFrom s 0 0 nothing) (reading-within s 0 0 nothing))
     (λ d e. within-cond 8 (length s) (eqb (length (d .clouds)) 0 || eqb (length (d .blocks)) 0) (refused 8 (length s)) (ok d) (λ _. (omega arith, omega arith, omega arith)) (λ _. tt))
 
-pub decode-within : (s : List ℕ) → RefusalWithin 8 346 (decode s)
+pub decode-within : (s : List ℕ) → RefusalWithin 8 decidingBytes (decode s)
 decode-within s =
-    subst (RefusalWithin 8 346) (front-decides s 346 (omega arith))
-    (within-more 8 346 (omega arith) (omega (arith, length-take 346 s)) (decode (take 346 s)) (within-length (take 346 s)))
+    subst (RefusalWithin 8 decidingBytes) (front-decides s decidingBytes (omega arith))
+    (within-more 8 decidingBytes (omega arith) (omega (arith, length-take decidingBytes s)) (decode (take decidingBytes s)) (within-length (take decidingBytes s)))

@@ -4,29 +4,28 @@ use Prim.Native.Nat.{ℕ}
 use mathlib.Core.Bool.{Bool, true, false, not, _&&_, _||_, cond}
 use mathlib.Core.List.{List}
 use mathlib.Core.Option.{none, some, Option·some-ne-none}
-use Rattle.description.specs.declared.workflow.Workflow.{Workflow}
 use Rattle.description.specs.declared.decode.Checked.the-variants.{Sound, Fault}
 use Rattle.description.specs.declared.decode.Step.{Step}
 use Rattle.description.specs.declared.workflow.Edge.{Edge}
 use Rattle.description.specs.declared.workflow.Way.{Way}
 use Rattle.description.specs.declared.workflow.Way.the-variants.{Reads, Writes}
-use Rattle.description.specs.Format.{Command, faultOf, clash, isWrite, sameWay}
-use Rattle.description.specs.Meaning.{describes, faultIn, Steps}
+use Rattle.description.specs.Format.{Description, Command, faultOf, clash, isWrite, sameWay}
+use Rattle.description.specs.Meaning.{faultIn, Steps}
 use lib.Dec.{eqb}
 
-module _ (s : List ℕ) (c : Command) {w : Workflow} {r : Step} where
-  pub stops : {n k : ℕ} → r ≡ record { fault = Fault n; width = k; workflow = w } → k ≡ c .width → faultOf s c ≡ some n → Steps s c r
+module _ (s : List ℕ) (c : Command) {d : Description} {r : Step} where
+  pub stops : {n k : ℕ} → r ≡ record { fault = Fault n; width = k } → k ≡ c .width → faultOf s c ≡ some n → Steps s c d r
   stops e k f = record {
     fault = ap (λ t. faultIn (t .fault)) e ∙ sym f;
     width = ap (λ t. t .width) e ∙ k;
     after = λ g. absurd (Option·some-ne-none _ (sym f ∙ g));
   }
 
-  pub goes : {k : ℕ} → r ≡ record { fault = Sound; width = k; workflow = w } → k ≡ c .width → faultOf s c ≡ none → describes w ≡ c .after → Steps s c r
+  pub goes : {k : ℕ} → r ≡ record { fault = Sound; width = k } → k ≡ c .width → faultOf s c ≡ none → d ≡ c .after → Steps s c d r
   goes e k f a = record {
     fault = ap (λ t. faultIn (t .fault)) e ∙ sym f;
     width = ap (λ t. t .width) e ∙ k;
-    after = λ g. ap (λ t. describes (t .workflow)) e ∙ a;
+    after = λ g. a;
   }
 
 -- Edges of one datum clash where both write, and where both read and the service is the same; those of two data never do.

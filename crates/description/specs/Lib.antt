@@ -1,4 +1,5 @@
 pub mod Bytes
 pub mod Format
 pub mod Invariants
+pub mod Layout
 pub mod Meaning

@@ -1,42 +1,50 @@
--- What the code's values mean: the description that a Workflow's arrays hold, and the result that a Decoding is.
+-- What the code's values mean: the description that the words hold, and the result that an outcome is.
 use Prim.Native.Nat.{ℕ}
 use mathlib.Core.Path.{_≡_}
 use mathlib.Core.List.{List}
 use mathlib.Core.Option.{Option, none, some}
-use lib.ListN.{take}
-use Rattle.description.specs.declared.workflow.Workflow.{Workflow}
+use lib.ListN.{take, replicate}
+use Rattle.description.specs.declared.words.Record.{Record}
+use Rattle.description.specs.declared.workflow.Cloud.{Cloud}
+use Rattle.description.specs.declared.workflow.Block.{Block}
+use Rattle.description.specs.declared.workflow.Edge.{Edge}
+use Rattle.description.specs.Layout.{mostClouds, mostBlocks, mostEdges, firstCloud, firstBlock, firstEdge, counts, wordCount}
+use Rattle.description.specs.Layout.{recordAt, part, toCloud, toBlock, toEdge}
 use Rattle.description.specs.declared.workflow.Outcome.{Outcome}
 use Rattle.description.specs.declared.workflow.Outcome.the-variants.{Accepted, Refused}
-use Rattle.description.specs.declared.workflow.Decoding.{Decoding}
 use Rattle.description.specs.declared.decode.Checked.{Checked}
 use Rattle.description.specs.declared.decode.Checked.the-variants.{Sound, Fault}
 use Rattle.description.specs.declared.decode.Step.{Step}
 use Rattle.description.specs.Format.{Description, Command, faultOf}
 use Rattle.sequences.specs.Results.{Result, ok, refused}
 
--- of each array, as many elements as were declared
-unfoldable pub describes : Workflow → Description
-describes w = record {
-  clouds = take (w .cloudcount) (w .clouds);
-  blocks = take (w .blockcount) (w .blocks);
-  edges = take (w .edgecount) (w .edges);
-}
+-- of each as many as the record of counts says
+abbrev pub counted : Record → List Cloud → List Block → List Edge → Description
+counted n cs bs es = record { clouds = take (n .a) cs; blocks = take (n .b) bs; edges = take (n .c) es }
+
+-- the description that words hold
+unfoldable pub describes : List ℕ → Description
+describes w =
+    counted (recordAt w counts) (part toCloud firstCloud mostClouds w) (part toBlock firstBlock mostBlocks w)
+    (part toEdge firstEdge mostEdges w)
 
 -- the answer enum's cases, with the number and place of a refusal
 abbrev pub outcomeOf : {A : Type 0} → Outcome → A → Result A
 outcomeOf Accepted a = ok a
 outcomeOf (Refused r) a = refused (r .number) (r .place)
 
-abbrev pub decodingOf : Decoding → Result Description
-decodingOf r = outcomeOf (r .outcome) (describes (r .workflow))
+-- after a refusal every word is 0
+abbrev pub Cleared : {A : Type 0} → Result A → List ℕ → Type 0
+Cleared (ok a) w = Unit {0}
+Cleared (refused number place) w = w ≡ replicate wordCount 0
 
 -- the number that one command is refused with, if any
 abbrev pub faultIn : Checked → Option ℕ
 faultIn Sound = none
 faultIn (Fault number) = some number
 
--- A step says of the command that s begins with: its fault, its width and, where it has no fault, the description after it.
-pub record Steps (s : List ℕ) (c : Command) (r : Step) : Type 0 where
+-- A step says of the command that s begins with: its fault, its width and, where it has no fault, that d is the description after it.
+pub record Steps (s : List ℕ) (c : Command) (d : Description) (r : Step) : Type 0 where
   pub fault : faultIn (r .fault) ≡ faultOf s c
   pub width : r .width ≡ c .width
-  pub after : faultOf s c ≡ none → describes (r .workflow) ≡ c .after
+  pub after : faultOf s c ≡ none → d ≡ c .after

@@ -1,32 +1,37 @@
 // Reading a description's bytes, command by command.
 ghost use mathlib.Core.Path.{_≡_};
 ghost use Prim.Native.Nat.{_+_, _<_, _≤_};
+ghost use mathlib.Core.Bool.{cond};
+ghost use lib.Dec.{eqb};
 ghost use lib.ListN.{length};
 ghost use Rattle.sequences.specs.Lists.{any};
 ghost use Rattle.description.specs.Format.{isDatum, isWrite, isPinned, namesDatum, namesService, clash};
 ghost use Rattle.description.specs.Format.{u16At, u32At, cloudAt, datumAt, serviceAt, edgeAt, pinAt, commandAt};
 ghost use Rattle.description.specs.Format.{readFrom, nothing, decode};
-ghost use Rattle.description.specs.Meaning.{describes, decodingOf, Steps};
+ghost use Rattle.description.specs.Meaning.{describes, outcomeOf, Cleared, Steps};
+use crate::words::MOST_BLOCKS;
+use crate::words::MOST_CLOUDS;
+use crate::words::MOST_EDGES;
+use crate::words::Words;
+use crate::words::clear;
 use crate::workflow::Block;
 use crate::workflow::Cloud;
-use crate::workflow::Decoding;
 use crate::workflow::Edge;
 use crate::workflow::Kind;
 use crate::workflow::Outcome;
 use crate::workflow::Pin;
 use crate::workflow::Refusal;
 use crate::workflow::Way;
-use crate::workflow::Workflow;
+use crate::workflow::begin;
 use crate::workflow::block_at;
 use crate::workflow::block_count;
 use crate::workflow::cloud_count;
 use crate::workflow::edge_at;
 use crate::workflow::edge_count;
-use crate::workflow::empty;
-use crate::workflow::with_block;
-use crate::workflow::with_cloud;
-use crate::workflow::with_edge;
-use crate::workflow::with_pin;
+use crate::workflow::put_block;
+use crate::workflow::put_cloud;
+use crate::workflow::put_edge;
+use crate::workflow::put_pin;
 
 // What is wrong with one command: nothing, or the number that it is refused with.
 pub enum Checked {
@@ -34,11 +39,10 @@ pub enum Checked {
     Fault(u8),
 }
 
-// One command that was read: its fault, its width in bytes, and the workflow with it where it has no fault.
+// One command that was read: its fault and its width in bytes.
 pub struct Step {
     pub fault: Checked,
     pub width: usize,
-    pub workflow: Workflow,
 }
 
 pub fn wide(x: u8) -> usize
@@ -95,8 +99,8 @@ fn is_pinned(p: Pin) -> bool
     }
 }
 
-fn names_datum(w: Workflow, n: usize) -> bool
-    ensures { λ r. ⌜ r ≡ namesDatum (describes w) n ⌝ }
+fn names_datum(w: &Words, n: usize) -> bool
+    ensures { λ r. ⌜ r ≡ namesDatum (describes (now (w .entry))) n ⌝ }
 {
     if n < block_count(w) {
         let b = block_at(w, n);
@@ -106,8 +110,8 @@ fn names_datum(w: Workflow, n: usize) -> bool
     false
 }
 
-fn names_service(w: Workflow, n: usize) -> bool
-    ensures { λ r. ⌜ r ≡ namesService (describes w) n ⌝ }
+fn names_service(w: &Words, n: usize) -> bool
+    ensures { λ r. ⌜ r ≡ namesService (describes (now (w .entry))) n ⌝ }
 {
     if n < block_count(w) {
         let b = block_at(w, n);
@@ -135,8 +139,8 @@ fn clashes(e: Edge, f: Edge) -> bool
     e.service == f.service
 }
 
-fn clashes_with_any(w: Workflow, e: Edge) -> bool
-    ensures { λ r. ⌜ r ≡ any (clash e) (describes w .edges) ⌝ }
+fn clashes_with_any(w: &Words, e: Edge) -> bool
+    ensures { λ r. ⌜ r ≡ any (clash e) (describes (now (w .entry)) .edges) ⌝ }
 {
     let n = edge_count(w);
     let mut i = 0;
@@ -149,38 +153,35 @@ fn clashes_with_any(w: Workflow, e: Edge) -> bool
     false
 }
 
-// A command that is refused: the workflow stays as it was.
-fn faulty(number: u8, width: usize, w: Workflow) -> Step
-    ensures { λ r. ⌜ r ≡ record { fault = Checked.Fault number; width = width; workflow = w } ⌝ }
+fn faulty(number: u8, width: usize) -> Step
+    ensures { λ r. ⌜ r ≡ record { fault = Checked.Fault number; width = width } ⌝ }
 {
     Step {
         fault: Checked::Fault(number),
         width,
-        workflow: w,
     }
 }
 
-fn taken(width: usize, w: Workflow) -> Step
-    ensures { λ r. ⌜ r ≡ record { fault = Checked.Sound; width = width; workflow = w } ⌝ }
+fn taken(width: usize) -> Step
+    ensures { λ r. ⌜ r ≡ record { fault = Checked.Sound; width = width } ⌝ }
 {
     Step {
         fault: Checked::Sound,
         width,
-        workflow: w,
     }
 }
 
-fn cloud_step(s: &[u8], w: Workflow) -> Step
-    ensures { λ r. ⌜ Steps (now (s .entry)) (cloudAt (now (s .entry)) (describes w)) r ⌝ }
+fn cloud_step(s: &[u8], w: &mut Words) -> Step
+    ensures { λ r. ⌜ Steps (now (s .entry)) (cloudAt (now (s .entry)) (describes (now (w .entry)))) (describes (now (w .exit))) r ⌝ }
 {
     if s.len() < 10 {
-        return faulty(1, 10, w);
+        return faulty(1, 10);
     }
-    if 8 <= cloud_count(w) {
-        return faulty(4, 10, w);
+    if MOST_CLOUDS <= cloud_count(w) {
+        return faulty(4, 10);
     }
     if 15 < s[1] {
-        return faulty(5, 10, w);
+        return faulty(5, 10);
     }
     let c = Cloud {
         level: s[1],
@@ -189,20 +190,21 @@ fn cloud_step(s: &[u8], w: Workflow) -> Step
         outward: be16(s, 6),
         cpu: be16(s, 8),
     };
-    taken(10, with_cloud(w, c))
+    put_cloud(w, c);
+    taken(10)
 }
 
-fn datum_step(s: &[u8], w: Workflow) -> Step
-    ensures { λ r. ⌜ Steps (now (s .entry)) (datumAt (now (s .entry)) (describes w)) r ⌝ }
+fn datum_step(s: &[u8], w: &mut Words) -> Step
+    ensures { λ r. ⌜ Steps (now (s .entry)) (datumAt (now (s .entry)) (describes (now (w .entry)))) (describes (now (w .exit))) r ⌝ }
 {
     if s.len() < 6 {
-        return faulty(1, 6, w);
+        return faulty(1, 6);
     }
-    if 16 <= block_count(w) {
-        return faulty(4, 6, w);
+    if MOST_BLOCKS <= block_count(w) {
+        return faulty(4, 6);
     }
     if 15 < s[1] {
-        return faulty(5, 6, w);
+        return faulty(5, 6);
     }
     let b = Block {
         level: s[1],
@@ -212,23 +214,24 @@ fn datum_step(s: &[u8], w: Workflow) -> Step
         },
         pin: Pin::Free,
     };
-    taken(6, with_block(w, b))
+    put_block(w, b);
+    taken(6)
 }
 
-fn service_step(s: &[u8], w: Workflow) -> Step
-    ensures { λ r. ⌜ Steps (now (s .entry)) (serviceAt (now (s .entry)) (describes w)) r ⌝ }
+fn service_step(s: &[u8], w: &mut Words) -> Step
+    ensures { λ r. ⌜ Steps (now (s .entry)) (serviceAt (now (s .entry)) (describes (now (w .entry)))) (describes (now (w .exit))) r ⌝ }
 {
     if s.len() < 7 {
-        return faulty(1, 7, w);
+        return faulty(1, 7);
     }
-    if 16 <= block_count(w) {
-        return faulty(4, 7, w);
+    if MOST_BLOCKS <= block_count(w) {
+        return faulty(4, 7);
     }
     if 15 < s[1] {
-        return faulty(5, 7, w);
+        return faulty(5, 7);
     }
     if 15 < s[2] {
-        return faulty(5, 7, w);
+        return faulty(5, 7);
     }
     let b = Block {
         level: s[1],
@@ -238,25 +241,26 @@ fn service_step(s: &[u8], w: Workflow) -> Step
         },
         pin: Pin::Free,
     };
-    taken(7, with_block(w, b))
+    put_block(w, b);
+    taken(7)
 }
 
-fn edge_step(way: Way, s: &[u8], w: Workflow) -> Step
-    ensures { λ r. ⌜ Steps (now (s .entry)) (edgeAt way (now (s .entry)) (describes w)) r ⌝ }
+fn edge_step(way: Way, s: &[u8], w: &mut Words) -> Step
+    ensures { λ r. ⌜ Steps (now (s .entry)) (edgeAt way (now (s .entry)) (describes (now (w .entry)))) (describes (now (w .exit))) r ⌝ }
 {
     if s.len() < 3 {
-        return faulty(1, 3, w);
+        return faulty(1, 3);
     }
-    if 32 <= edge_count(w) {
-        return faulty(4, 3, w);
+    if MOST_EDGES <= edge_count(w) {
+        return faulty(4, 3);
     }
     let service = s[1];
     let datum = s[2];
     if !names_service(w, wide(service)) {
-        return faulty(6, 3, w);
+        return faulty(6, 3);
     }
     if !names_datum(w, wide(datum)) {
-        return faulty(6, 3, w);
+        return faulty(6, 3);
     }
     let e = Edge {
         way,
@@ -264,37 +268,50 @@ fn edge_step(way: Way, s: &[u8], w: Workflow) -> Step
         datum,
     };
     if clashes_with_any(w, e) {
-        return faulty(7, 3, w);
+        return faulty(7, 3);
     }
-    taken(3, with_edge(w, e))
+    put_edge(w, e);
+    taken(3)
 }
 
-fn pin_step(s: &[u8], w: Workflow) -> Step
-    ensures { λ r. ⌜ Steps (now (s .entry)) (pinAt (now (s .entry)) (describes w)) r ⌝ }
+fn pin_step(s: &[u8], w: &mut Words) -> Step
+    ensures { λ r. ⌜ Steps (now (s .entry)) (pinAt (now (s .entry)) (describes (now (w .entry)))) (describes (now (w .exit))) r ⌝ }
 {
     if s.len() < 3 {
-        return faulty(1, 3, w);
+        return faulty(1, 3);
     }
     let b = wide(s[1]);
     let k = s[2];
     if block_count(w) <= b {
-        return faulty(6, 3, w);
+        return faulty(6, 3);
     }
     if cloud_count(w) <= wide(k) {
-        return faulty(6, 3, w);
+        return faulty(6, 3);
     }
     let old = block_at(w, b);
     let p = old.pin;
     if is_pinned(p) {
-        return faulty(7, 3, w);
+        return faulty(7, 3);
     }
-    taken(3, with_pin(w, b, k))
+    put_pin(w, b, k);
+    taken(3)
 }
 
-// The command that s begins with, which is not 00.
-fn command_step(s: &[u8], w: Workflow) -> Step
+// What an edge does, by its command byte: 04 reads, 05 writes.
+fn way_of(c: u8) -> Way
+    ensures { λ r. ⌜ r ≡ cond (eqb c 4) Way.Reads Way.Writes ⌝ }
+{
+    if c == 4 {
+        return Way::Reads;
+    }
+    Way::Writes
+}
+
+// The command that s begins with, which is not 00. Edges have one call: where there were two, it was not compiled in place, and what it
+// answers went through memory.
+fn command_step(s: &[u8], w: &mut Words) -> Step
     requires { ⌜ 0 < length (now s) ⌝ }
-    ensures { λ r. ⌜ Steps (now (s .entry)) (commandAt (now (s .entry)) (describes w)) r ⌝ }
+    ensures { λ r. ⌜ Steps (now (s .entry)) (commandAt (now (s .entry)) (describes (now (w .entry)))) (describes (now (w .exit))) r ⌝ }
 {
     let c = s[0];
     if c == 1 {
@@ -306,76 +323,72 @@ fn command_step(s: &[u8], w: Workflow) -> Step
     if c == 3 {
         return service_step(s, w);
     }
-    if c == 4 {
-        return edge_step(Way::Reads, s, w);
-    }
-    if c == 5 {
-        return edge_step(Way::Writes, s, w);
-    }
     if c == 6 {
         return pin_step(s, w);
     }
-    faulty(2, 1, w)
+    if c < 4 {
+        return faulty(2, 1);
+    }
+    if 5 < c {
+        return faulty(2, 1);
+    }
+    edge_step(way_of(c), s, w)
 }
 
-fn refuse(number: u8, place: usize, w: Workflow) -> Decoding
-    ensures { λ r. ⌜ r ≡ record { outcome = Outcome.Refused (record { number = number; place = place }); workflow = w } ⌝ }
+fn refuse(number: u8, place: usize) -> Outcome
+    ensures { λ r. ⌜ r ≡ Outcome.Refused (record { number = number; place = place }) ⌝ }
 {
-    Decoding {
-        outcome: Outcome::Refused(Refusal { number, place }),
-        workflow: w,
-    }
-}
-
-fn accept(w: Workflow) -> Decoding
-    ensures { λ r. ⌜ r ≡ record { outcome = Outcome.Accepted; workflow = w } ⌝ }
-{
-    Decoding {
-        outcome: Outcome::Accepted,
-        workflow: w,
-    }
+    Outcome::Refused(Refusal { number, place })
 }
 
 // All commands, to 00 and the end behind it.
-fn read_commands(s: &[u8]) -> Decoding
-    ensures { λ r. ⌜ decodingOf r ≡ readFrom (now (s .entry)) 0 0 nothing ⌝ }
+fn read_commands(s: &[u8], w: &mut Words) -> Outcome
+    ensures { λ r. ⌜ outcomeOf r (describes (now (w .exit))) ≡ readFrom (now (s .entry)) 0 0 nothing ⌝ }
 {
     let mut at = 0;
-    let mut w = empty();
+    begin(w);
     while at < s.len() {
         if s[at] == 0 {
             if at + 1 == s.len() {
-                return accept(w);
+                return Outcome::Accepted;
             }
-            return refuse(3, at + 1, w);
+            return refuse(3, at + 1);
         }
         let step = command_step(&s[at..], w);
         let fault = step.fault;
         if let Checked::Fault(number) = fault {
-            return refuse(number, at, w);
+            return refuse(number, at);
         }
         at += step.width;
-        let next = step.workflow;
-        w = next;
     }
-    refuse(1, at, w)
+    refuse(1, at)
 }
 
 // The whole description, with a cloud and a block at least.
-pub fn decode(s: &[u8]) -> Decoding
-    ensures { λ r. ⌜ decodingOf r ≡ decode (now (s .entry)) ⌝ }
+fn read_whole(s: &[u8], w: &mut Words) -> Outcome
+    ensures { λ r. ⌜ outcomeOf r (describes (now (w .exit))) ≡ decode (now (s .entry)) ⌝ }
 {
-    let r = read_commands(s);
-    let outcome = r.outcome;
-    let w = r.workflow;
+    let outcome = read_commands(s, w);
     let Outcome::Accepted = outcome else {
-        return r;
+        return outcome;
     };
     if cloud_count(w) == 0 {
-        return refuse(8, s.len(), w);
+        return refuse(8, s.len());
     }
     if block_count(w) == 0 {
-        return refuse(8, s.len(), w);
+        return refuse(8, s.len());
     }
-    r
+    Outcome::Accepted
+}
+
+// Decodes a description into the words; a refusal leaves them cleared.
+pub fn decode(s: &[u8], w: &mut Words) -> Outcome
+    ensures { λ r. ⌜ outcomeOf r (describes (now (w .exit))) ≡ decode (now (s .entry)) ⌝ }
+    ensures { λ _. ⌜ Cleared (decode (now (s .entry))) (now (w .exit)) ⌝ }
+{
+    let outcome = read_whole(s, w);
+    if let Outcome::Refused(_) = outcome {
+        clear(w);
+    }
+    outcome
 }

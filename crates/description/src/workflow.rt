@@ -1,9 +1,21 @@
-// What a description declares, as plain values: clouds, blocks and edges in arrays of the format's limits.
+// What a description declares: clouds, blocks and edges, each a record of the words that the caller lends.
 ghost use mathlib.Core.Path.{_≡_};
-ghost use Prim.Native.Nat.{_<_, _≤_};
+ghost use Prim.Native.Nat.{_<_, _≤_, _%_, min};
 ghost use lib.ListN.{length};
 ghost use Rattle.description.specs.Format.{cloud, block, edge, nothing, withCloud, withBlock, withEdge, withPin};
+ghost use Rattle.description.specs.Layout.{toCloud, toKind, toPin, toBlock, toWay, toEdge};
 ghost use Rattle.description.specs.Meaning.{describes};
+use crate::words::BLOCKS;
+use crate::words::CLOUDS;
+use crate::words::COUNTS;
+use crate::words::EDGES;
+use crate::words::MOST_BLOCKS;
+use crate::words::MOST_CLOUDS;
+use crate::words::MOST_EDGES;
+use crate::words::Record;
+use crate::words::Words;
+use crate::words::put_record;
+use crate::words::record_at;
 
 pub struct Cloud {
     pub level: u8,
@@ -43,16 +55,6 @@ pub struct Edge {
     pub datum: u8,
 }
 
-// A description's contents: the first elements of each array, as many as its count says.
-pub struct Workflow {
-    pub clouds: [Cloud; 8],
-    pub cloudcount: usize,
-    pub blocks: [Block; 16],
-    pub blockcount: usize,
-    pub edges: [Edge; 32],
-    pub edgecount: usize,
-}
-
 // The number and the place of what is refused.
 pub struct Refusal {
     pub number: u8,
@@ -64,73 +66,198 @@ pub enum Outcome {
     Refused(Refusal),
 }
 
-// What decoding comes to. The workflow counts only where the outcome is accepted.
-pub struct Decoding {
-    pub outcome: Outcome,
-    pub workflow: Workflow,
-}
+// ---- a record for each, and back
 
-pub fn empty() -> Workflow
-    ensures { λ r. ⌜ describes r ≡ nothing ⌝ }
+fn to_cloud(x: Record) -> Cloud
+    ensures { λ r. ⌜ r ≡ toCloud x ⌝ }
 {
-    Workflow {
-        clouds: [Cloud {
-            level: 0,
-            storage: 0,
-            inward: 0,
-            outward: 0,
-            cpu: 0,
-        }; 8],
-        cloudcount: 0,
-        blocks: [Block {
-            level: 0,
-            kind: Kind::Datum {
-                size: 0,
-                longevity: 0,
-            },
-            pin: Pin::Free,
-        }; 16],
-        blockcount: 0,
-        edges: [Edge {
-            way: Way::Reads,
-            service: 0,
-            datum: 0,
-        }; 32],
-        edgecount: 0,
+    Cloud {
+        level: (x.a % 256) as u8,
+        storage: (x.b % 65536) as u16,
+        inward: (x.c % 65536) as u16,
+        outward: (x.d % 65536) as u16,
+        cpu: (x.e % 65536) as u16,
     }
 }
 
+fn to_kind(x: Record) -> Kind
+    ensures { λ r. ⌜ r ≡ toKind x ⌝ }
+{
+    if x.b == 0 {
+        return Kind::Datum {
+            size: (x.c % 65536) as u16,
+            longevity: (x.d % 65536) as u16,
+        };
+    }
+    Kind::Service {
+        clearance: (x.c % 256) as u8,
+        units: x.d,
+    }
+}
+
+fn to_pin(n: u32) -> Pin
+    ensures { λ r. ⌜ r ≡ toPin n ⌝ }
+{
+    if n == 0 {
+        return Pin::Free;
+    }
+    Pin::To(((n - 1) % 256) as u8)
+}
+
+fn to_block(x: Record) -> Block
+    ensures { λ r. ⌜ r ≡ toBlock x ⌝ }
+{
+    Block {
+        level: (x.a % 256) as u8,
+        kind: to_kind(x),
+        pin: to_pin(x.e),
+    }
+}
+
+fn to_way(n: u32) -> Way
+    ensures { λ r. ⌜ r ≡ toWay n ⌝ }
+{
+    if n == 0 {
+        return Way::Reads;
+    }
+    Way::Writes
+}
+
+fn to_edge(x: Record) -> Edge
+    ensures { λ r. ⌜ r ≡ toEdge x ⌝ }
+{
+    Edge {
+        way: to_way(x.a),
+        service: (x.b % 256) as u8,
+        datum: (x.c % 256) as u8,
+    }
+}
+
+fn cloud_record(c: Cloud) -> Record
+    ensures { λ r. ⌜ toCloud r ≡ c ⌝ }
+{
+    Record {
+        a: c.level as u32,
+        b: c.storage as u32,
+        c: c.inward as u32,
+        d: c.outward as u32,
+        e: c.cpu as u32,
+    }
+}
+
+fn pin_word(p: Pin) -> u32
+    ensures { λ r. ⌜ toPin r ≡ p ⌝ }
+{
+    match p {
+        Pin::Free => 0,
+        Pin::To(k) => k as u32 + 1,
+    }
+}
+
+fn block_record(b: Block) -> Record
+    ensures { λ r. ⌜ toBlock r ≡ b ⌝ }
+{
+    let kind = b.kind;
+    let pin = b.pin;
+    let a = b.level as u32;
+    let e = pin_word(pin);
+    match kind {
+        Kind::Datum { size, longevity } => Record {
+            a,
+            b: 0,
+            c: size as u32,
+            d: longevity as u32,
+            e,
+        },
+        Kind::Service { clearance, units } => Record {
+            a,
+            b: 1,
+            c: clearance as u32,
+            d: units,
+            e,
+        },
+    }
+}
+
+fn way_word(w: Way) -> u32
+    ensures { λ r. ⌜ toWay r ≡ w ⌝ }
+{
+    match w {
+        Way::Reads => 0,
+        Way::Writes => 1,
+    }
+}
+
+fn edge_record(e: Edge) -> Record
+    ensures { λ r. ⌜ toEdge r ≡ e ⌝ }
+{
+    let way = e.way;
+    Record {
+        a: way_word(way),
+        b: e.service as u32,
+        c: e.datum as u32,
+        d: 0,
+        e: 0,
+    }
+}
+
+// ---- the words
+
+// Nothing is declared yet.
+pub fn begin(w: &mut Words)
+    ensures { λ _. ⌜ describes (now (w .exit)) ≡ nothing ⌝ }
+{
+    put_record(
+        w,
+        COUNTS,
+        Record {
+            a: 0,
+            b: 0,
+            c: 0,
+            d: 0,
+            e: 0,
+        },
+    );
+}
+
+fn at_most(n: u32, most: usize) -> usize
+    ensures { λ r. ⌜ r ≡ min n most ⌝ }
+{
+    let n = n as usize;
+    if n < most { n } else { most }
+}
+
 // How many clouds, blocks and edges are declared.
-pub fn cloud_count(w: Workflow) -> usize
-    ensures { λ r. ⌜ r ≡ length (describes w .clouds) ⌝ }
+pub fn cloud_count(w: &Words) -> usize
+    ensures { λ r. ⌜ r ≡ length (describes (now (w .entry)) .clouds) ⌝ }
     ensures { λ r. ⌜ r ≤ 8 ⌝ }
 {
-    let n = w.cloudcount;
-    if n < 8 { n } else { 8 }
+    let counts = record_at(w, COUNTS);
+    at_most(counts.a, MOST_CLOUDS)
 }
 
-pub fn block_count(w: Workflow) -> usize
-    ensures { λ r. ⌜ r ≡ length (describes w .blocks) ⌝ }
+pub fn block_count(w: &Words) -> usize
+    ensures { λ r. ⌜ r ≡ length (describes (now (w .entry)) .blocks) ⌝ }
     ensures { λ r. ⌜ r ≤ 16 ⌝ }
 {
-    let n = w.blockcount;
-    if n < 16 { n } else { 16 }
+    let counts = record_at(w, COUNTS);
+    at_most(counts.b, MOST_BLOCKS)
 }
 
-pub fn edge_count(w: Workflow) -> usize
-    ensures { λ r. ⌜ r ≡ length (describes w .edges) ⌝ }
+pub fn edge_count(w: &Words) -> usize
+    ensures { λ r. ⌜ r ≡ length (describes (now (w .entry)) .edges) ⌝ }
     ensures { λ r. ⌜ r ≤ 32 ⌝ }
 {
-    let n = w.edgecount;
-    if n < 32 { n } else { 32 }
+    let counts = record_at(w, COUNTS);
+    at_most(counts.c, MOST_EDGES)
 }
 
 // A cloud, block or edge by its number. Past the last there is one with zeros in every field.
-pub fn cloud_at(w: Workflow, k: usize) -> Cloud
-    ensures { λ r. ⌜ r ≡ cloud (describes w) k ⌝ }
+pub fn cloud_at(w: &Words, k: usize) -> Cloud
+    ensures { λ r. ⌜ r ≡ cloud (describes (now (w .entry))) k ⌝ }
 {
     if k < cloud_count(w) {
-        return w.clouds[k];
+        return to_cloud(record_at(w, CLOUDS + k));
     }
     Cloud {
         level: 0,
@@ -141,11 +268,11 @@ pub fn cloud_at(w: Workflow, k: usize) -> Cloud
     }
 }
 
-pub fn block_at(w: Workflow, b: usize) -> Block
-    ensures { λ r. ⌜ r ≡ block (describes w) b ⌝ }
+pub fn block_at(w: &Words, b: usize) -> Block
+    ensures { λ r. ⌜ r ≡ block (describes (now (w .entry))) b ⌝ }
 {
     if b < block_count(w) {
-        return w.blocks[b];
+        return to_block(record_at(w, BLOCKS + b));
     }
     Block {
         level: 0,
@@ -157,11 +284,11 @@ pub fn block_at(w: Workflow, b: usize) -> Block
     }
 }
 
-pub fn edge_at(w: Workflow, n: usize) -> Edge
-    ensures { λ r. ⌜ r ≡ edge (describes w) n ⌝ }
+pub fn edge_at(w: &Words, n: usize) -> Edge
+    ensures { λ r. ⌜ r ≡ edge (describes (now (w .entry))) n ⌝ }
 {
     if n < edge_count(w) {
-        return w.edges[n];
+        return to_edge(record_at(w, EDGES + n));
     }
     Edge {
         way: Way::Reads,
@@ -171,50 +298,49 @@ pub fn edge_at(w: Workflow, n: usize) -> Edge
 }
 
 // One more cloud, block, edge or pin, where there is room for it.
-pub fn with_cloud(w: Workflow, c: Cloud) -> Workflow
-    requires { ⌜ length (describes w .clouds) < 8 ⌝ }
-    ensures { λ r. ⌜ describes r ≡ withCloud (describes w) c ⌝ }
+pub fn put_cloud(w: &mut Words, c: Cloud)
+    requires { ⌜ length (describes (now w) .clouds) < 8 ⌝ }
+    ensures { λ _. ⌜ describes (now (w .exit)) ≡ withCloud (describes (now (w .entry))) c ⌝ }
 {
-    let mut r = w;
     let n = cloud_count(w);
-    r.clouds[n] = c;
-    r.cloudcount = n + 1;
-    r
+    let mut counts = record_at(w, COUNTS);
+    counts.a = n as u32 + 1;
+    put_record(w, CLOUDS + n, cloud_record(c));
+    put_record(w, COUNTS, counts);
 }
 
-pub fn with_block(w: Workflow, b: Block) -> Workflow
-    requires { ⌜ length (describes w .blocks) < 16 ⌝ }
-    ensures { λ r. ⌜ describes r ≡ withBlock (describes w) b ⌝ }
+pub fn put_block(w: &mut Words, b: Block)
+    requires { ⌜ length (describes (now w) .blocks) < 16 ⌝ }
+    ensures { λ _. ⌜ describes (now (w .exit)) ≡ withBlock (describes (now (w .entry))) b ⌝ }
 {
-    let mut r = w;
     let n = block_count(w);
-    r.blocks[n] = b;
-    r.blockcount = n + 1;
-    r
+    let mut counts = record_at(w, COUNTS);
+    counts.b = n as u32 + 1;
+    put_record(w, BLOCKS + n, block_record(b));
+    put_record(w, COUNTS, counts);
 }
 
-pub fn with_edge(w: Workflow, e: Edge) -> Workflow
-    requires { ⌜ length (describes w .edges) < 32 ⌝ }
-    ensures { λ r. ⌜ describes r ≡ withEdge (describes w) e ⌝ }
+pub fn put_edge(w: &mut Words, e: Edge)
+    requires { ⌜ length (describes (now w) .edges) < 32 ⌝ }
+    ensures { λ _. ⌜ describes (now (w .exit)) ≡ withEdge (describes (now (w .entry))) e ⌝ }
 {
-    let mut r = w;
     let n = edge_count(w);
-    r.edges[n] = e;
-    r.edgecount = n + 1;
-    r
+    let mut counts = record_at(w, COUNTS);
+    counts.c = n as u32 + 1;
+    put_record(w, EDGES + n, edge_record(e));
+    put_record(w, COUNTS, counts);
 }
 
-pub fn with_pin(w: Workflow, b: usize, k: u8) -> Workflow
-    requires { ⌜ b < length (describes w .blocks) ⌝ }
-    ensures { λ r. ⌜ describes r ≡ withPin (describes w) b k ⌝ }
+pub fn put_pin(w: &mut Words, b: usize, k: u8)
+    requires { ⌜ b < length (describes (now w) .blocks) ⌝ }
+    ensures { λ _. ⌜ describes (now (w .exit)) ≡ withPin (describes (now (w .entry))) b k ⌝ }
 {
-    let mut r = w;
     let old = block_at(w, b);
     let kind = old.kind;
-    r.blocks[b] = Block {
+    let new = Block {
         level: old.level,
         kind,
         pin: Pin::To(k),
     };
-    r
+    put_record(w, BLOCKS + b, block_record(new));
 }

@@ -3,14 +3,14 @@ use Prim.Native.Nat.{ℕ, _+_, _*_, _-_, _≤_}
 use native.Mathlib.Nat.{zero-add}
 use native.Mathlib.Omega.{arith}
 use mathlib.Core.Path.{_≡_, refl, sym, ap, ap₂, subst, subst₂, _∙_}
-use mathlib.Core.Bool.{Bool, true, false, _&&_, _||_}
-use mathlib.Core.List.{List, [], _∷_, _++_, map, foldl, List·Memᴰ, Memᴰ·of-map}
+use mathlib.Core.Bool.{Bool, true, _&&_, _||_}
+use mathlib.Core.List.{List, [], _∷_, _++_, map, List·Memᴰ, Memᴰ·of-map}
 use lib.Dec.{ltb, eqb}
 use lib.ListN.{length, take, drop, replicate, length-map}
 use lib.Seq.{take-at, drop-at}
-use Rattle.description.specs.Bytes.{Bytes}
 use Rattle.description.specs.Format.{Description}
-use Rattle.security.specs.Soundness.{read, candidates, count}
+use Rattle.security.specs.Accepted.{Admitted}
+use Rattle.security.specs.Soundness.{candidates, count}
 use Rattle.security.specs.Placements.{secure}
 use Rattle.costs.specs.Cost.{cost}
 use Rattle.security.proofs.Candidates.{count-is-length}
@@ -20,7 +20,6 @@ use Rattle.visiting.specs.Tables.{weight}
 use Rattle.visiting.specs.Tables.{stands as standsBy}
 use Rattle.visiting.specs.Visiting.{isSecure}
 use Rattle.walk.specs.Walking.{keepAll}
-use Rattle.visiting.specs.declared.visit.Task.{Task}
 use Rattle.lister.specs.declared.Row.{Row}
 use Rattle.tables.specs.Building.{tablesOf, padded}
 use Rattle.lister.specs.Joining.{Joined, met}
@@ -32,7 +31,6 @@ use Rattle.lister.proofs.Walked.{is-row}
 use Rattle.sorting.specs.Rows.{flat, lower, pairs, sortedFront}
 use Rattle.sorting.proofs.Rows.{length-flat, pairs-flat}
 use Rattle.sequences.specs.Lists.{keep, before, sort}
-use Rattle.sequences.specs.Results.{ok}
 use Rattle.sequences.proofs.Agreeing.{keep-agree, keep-map, map-agree}
 use Rattle.sequences.proofs.Members.{keep-members}
 use Rattle.sequences.proofs.Parts.{keep-both, two-parts}
@@ -47,7 +45,7 @@ map-map : {A B C : Type 0} (f : A → B) (g : B → C) (l : List A) → map g (m
 map-map f g [] = refl
 map-map f g (a ∷ l) = ap (λ r. g (f a) ∷ r) (map-map f g l)
 
-module _ (s : List ℕ) (d : Description) (bytes : Bytes s) (accepted : read s ≡ ok d) where
+module _ (d : Description) (a : Admitted d) where
   abbrev n : ℕ
   n = length (d .blocks)
 
@@ -58,7 +56,7 @@ module _ (s : List ℕ) (d : Description) (bytes : Bytes s) (accepted : read s �
   met' = met d (tablesOf d)
 
   j : Joined d (tablesOf d)
-  j = joined s d bytes accepted
+  j = joined d a
 
   -- the placements of the rows, and the same as the walk meets them
   abbrev standing : List (List ℕ)
@@ -87,7 +85,9 @@ module _ (s : List ℕ) (d : Description) (bytes : Bytes s) (accepted : read s �
 
   kept-unsorted : flat (map (λ q. (W q, pack q)) (keep isRow met')) ≡ unsorted d
   unfolding unsorted
-  kept-unsorted = ap flat (map-agree _ _ (keep isRow met') words-met ∙ sym (map-map (padded d) (λ p. rowWords d (rowOf d p)) (keep isRow met')) ∙ ap (map (λ p. rowWords d (rowOf d p))) standing-met)
+  kept-unsorted =
+      let words : List ℕ → ℕ × ℕ = λ p. rowWords d (rowOf d p) in
+      ap flat (map-agree _ _ (keep isRow met') words-met ∙ sym (map-map (padded d) words (keep isRow met')) ∙ ap (map words) standing-met)
 
   rows-number : length (keep isRow met') ≡ length (rows d)
   rows-number = sym (length-map (keep isRow met') (padded d)) ∙ ap length standing-met ∙ sym (rows-length d)
@@ -99,16 +99,18 @@ module _ (s : List ℕ) (d : Description) (bytes : Bytes s) (accepted : read s �
 
   -- A WALK THAT COUNTS KEEPS THE ROWS, in the walk's order, where there is room
   pub walk-keeps : (words : List ℕ) → needed d ≤ length words
-      → keepAll (tablesOf d) (length (d .clouds)) n (record { counting = true; cost = 0; place = 0 }) nothingSeen words ≡ unsorted d ++ drop (needed d) words
+      → keepAll (tablesOf d) (length (d .clouds)) n (record { counting = true; cost = 0; place = 0 }) nothingSeen words ≡
+      unsorted d ++ drop (needed d) words
   unfolding keepAll
   walk-keeps words h =
-      kept-words W pack (standsBy (tablesOf d) n) (record { counting = true; cost = 0; place = 0 }) refl met' nothingSeen words (rw (zero-add, rows-number) h)
+      kept-words W pack (standsBy (tablesOf d) n) (record { counting = true; cost = 0; place = 0 }) refl met' nothingSeen words
+      (rw (zero-add, rows-number) h)
       ∙ ap₂ (λ a b. a ++ drop (b * 2) words) kept-unsorted (zero-add (length (keep isRow met')) ∙ rows-number)
 
   -- a row is that of a placement that was met
   met-of : (x : Row) → List·Memᴰ x (map (rowOf d) standing) → (q : List ℕ) × List·Memᴰ q met' × (rowOf d (padded d q) ≡ x)
-  met-of x a =
-      let (p, m, e) = Memᴰ·of-map (rowOf d) standing a in
+  met-of x member =
+      let (p, m, e) = Memᴰ·of-map (rowOf d) standing member in
       let (q, k, f) = Memᴰ·of-map (padded d) (keep isRow met') (subst (List·Memᴰ p) (sym standing-met) m) in
       (q, keep-members isRow met' q .0 k .0, ap (rowOf d) f ∙ e)
 
@@ -118,14 +120,16 @@ module _ (s : List ℕ) (d : Description) (bytes : Bytes s) (accepted : read s �
   words-row r m =
       let (q, k, e) = met-of r (sort-members earlier (map (rowOf d) standing) r .0 m) in
       subst (λ x. digits n (rowWords d x .1) ++ replicate (16 - n) 0 ≡ x .placement) e
-      (ap (λ l. digits n (pack l) ++ replicate (16 - n) 0) (blocks-of q k) ∙ ap (λ l. l ++ replicate (16 - n) 0) (digits-pack n q (j .sized q k) (j .low q k)))
+      (ap (λ l. digits n (pack l) ++ replicate (16 - n) 0) (blocks-of q k) ∙
+      ap (λ l. l ++ replicate (16 - n) 0) (digits-pack n q (j .sized q k) (j .low q k)))
 
   -- words order rows as the rows' order does
-  ordered-rows : (x y : Row) → List·Memᴰ x (map (rowOf d) standing) → List·Memᴰ y (map (rowOf d) standing) → lower (rowWords d x) (rowWords d y) ≡ earlier x y
+  ordered-rows : (x y : Row) → List·Memᴰ x (map (rowOf d) standing) → List·Memᴰ y (map (rowOf d) standing)
+      → lower (rowWords d x) (rowWords d y) ≡ earlier x y
   unfolding lower
-  ordered-rows x y a b =
-      let (q, m, e) = met-of x a in
-      let (u, k, f) = met-of y b in
+  ordered-rows x y in-x in-y =
+      let (q, m, e) = met-of x in-x in
+      let (u, k, f) = met-of y in-y in
       let same : ltb (pack (take n (padded d q))) (pack (take n (padded d u))) ≡ before (padded d q) (padded d u) =
       ap₂ (λ v w. ltb (pack v) (pack w)) (blocks-of q m) (blocks-of u k) ∙ sym (ordered d j q u m k) in
       subst₂ (λ v w. lower (rowWords d v) (rowWords d w) ≡ earlier v w) e f
@@ -140,11 +144,14 @@ module _ (s : List ℕ) (d : Description) (bytes : Bytes s) (accepted : read s �
 
   pub unsorted-length : length (unsorted d) ≡ needed d
   unfolding unsorted
-  unsorted-length = length-flat (map (λ p. rowWords d (rowOf d p)) standing) ∙ ap (λ k. k * 2) (length-map standing (λ p. rowWords d (rowOf d p)) ∙ sym (rows-length d))
+  unsorted-length =
+      let words : List ℕ → ℕ × ℕ = λ p. rowWords d (rowOf d p) in
+      length-flat (map words standing) ∙ ap (λ k. k * 2) (length-map standing words ∙ sym (rows-length d))
 
   -- the sort makes the one of the other, and leaves what is beyond
   pub sorted-front : (ws : List ℕ) → sortedFront (length (rows d)) (unsorted d ++ ws) ≡ listed d ++ ws
   unfolding sortedFront
   sorted-front ws =
-      ap₂ (λ a b. flat (sort lower (pairs a)) ++ b) (take-at (unsorted d) ws (needed d) unsorted-length) (drop-at (unsorted d) ws (needed d) unsorted-length)
+      ap₂ (λ x y. flat (sort lower (pairs x)) ++ y)
+      (take-at (unsorted d) ws (needed d) unsorted-length) (drop-at (unsorted d) ws (needed d) unsorted-length)
       ∙ ap (λ l. l ++ ws) sorted-listed

@@ -31,10 +31,13 @@ abbrev pub listAnswer : Listed → Result (ℕ × ℕ)
 listAnswer (Rows e) = ok (e .rows, e .blocks)
 listAnswer (Refused r) = refused (r .number) (r .place)
 
--- Read's refusal comes first. Rows that do not fit into the room, in words, are refused as a short buffer is: with number 16, and the
--- room needed for a place.
+-- Rows that do not fit into the room, in words, are refused as a short buffer is: with number 16, and the room needed for a place.
+abbrev pub listedIn : Description → (room : ℕ) → Result (ℕ × ℕ)
+listedIn d room = cond (leb (needed d) room) (ok (length (rows d), length (d .blocks))) (refused 16 (needed d))
+
+-- Read's refusal comes first.
 unfoldable pub listCall : List ℕ → (room : ℕ) → Result (ℕ × ℕ)
-listCall s room = andThen (read s) (λ d. cond (leb (needed d) room) (ok (length (rows d), length (d .blocks))) (refused 16 (needed d)))
+listCall s room = andThen (read s) (λ d. listedIn d room)
 
 -- lent words after the call: a new front, and beyond it as they were; after a refusal all as they were
 abbrev pub replaced : Result Description → (room : ℕ) → (Description → List ℕ) → List ℕ → List ℕ
@@ -46,5 +49,8 @@ unfoldable pub rowsAfter : List ℕ → (room : ℕ) → List ℕ → List ℕ
 rowsAfter s room words = replaced (read s) room listed words
 
 -- the scratch is cleared as far as it was used
+abbrev pub cleared : Description → List ℕ
+cleared d = replicate (needed d) 0
+
 unfoldable pub scratchAfter : List ℕ → (room : ℕ) → List ℕ → List ℕ
-scratchAfter s room words = replaced (read s) room (λ d. replicate (needed d) 0) words
+scratchAfter s room words = replaced (read s) room cleared words

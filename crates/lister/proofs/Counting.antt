@@ -6,17 +6,17 @@ use mathlib.Core.List.{List, map}
 use lib.Dec.{eqb}
 use lib.ListN.{length, length-map}
 use Rattle.description.specs.Format.{Description}
-use Rattle.security.specs.Soundness.{read, candidates}
+use Rattle.description.specs.Invariants.{WellFormed}
+use Rattle.security.specs.Soundness.{candidates, count}
 use Rattle.security.specs.Placements.{judge, broken16, broken17}
-use Rattle.security.proofs.Accepted.{read-wellFormed}
-use Rattle.security.proofs.Candidates.{candidates-placed}
+use Rattle.security.proofs.Candidates.{candidates-placed, count-is-length}
 use Rattle.security.proofs.Judging.{judge-number}
 use Rattle.rules.proofs.Options.{sameOption-equivalence}
 use Rattle.lister.specs.Rows.{securePlacements, census, earlier, rowOf, stands, rows}
 use Rattle.lister.proofs.Drawing.{secure-once}
 use Rattle.lister.proofs.Standing.{options-stand}
 use Rattle.sequences.specs.Lists.{keep}
-use Rattle.sequences.specs.Results.{ok, numberOf}
+use Rattle.sequences.specs.Results.{numberOf}
 use Rattle.sequences.proofs.Agreeing.{keep-agree}
 use Rattle.sequences.proofs.Distinct.{distinct-number}
 use Rattle.sequences.proofs.Parts.{three-parts}
@@ -28,12 +28,12 @@ use Rattle.sequences.proofs.Sorting.{sort-length}
 abbrev judgedAs : Description → ℕ → ℕ
 judgedAs d n = length (keep (λ p. eqb (numberOf (judge d p)) n) (candidates d))
 
-module _ (s : List ℕ) (d : Description) (accepted : read s ≡ ok d) where
+module _ (d : Description) (w : WellFormed d) where
   -- a test of candidates that goes with Judge's number
   judged : (n : ℕ) (test : List ℕ → Bool)
       → ((p : List ℕ) → test p ≡ eqb (cond (broken16 d p) 14 (cond (broken17 d p) 15 0)) n) → length (keep test (candidates d)) ≡ judgedAs d n
   judged n test h = ap length (keep-agree test (λ p. eqb (numberOf (judge d p)) n) (candidates d) (λ p m.
-      let (size, placed) = candidates-placed d (read-wellFormed s d accepted .limits .clouds) p .0 m in
+      let (size, placed) = candidates-placed d (w .limits .clouds) p .0 m in
       h p ∙ ap (λ (k : ℕ). eqb k n) (sym (judge-number d p placed))))
 
   -- Breaking 16 are the candidates to which Judge gives 14,
@@ -67,6 +67,11 @@ module _ (s : List ℕ) (d : Description) (accepted : read s ≡ ok d) where
       go false false = refl
 
 -- ---- sums and rows
+
+-- the candidates are as many as the count of choices says
+pub census-candidates : (d : Description) → census d .candidates ≡ count d
+unfolding census
+census-candidates d = count-is-length d
 
 -- candidates = breaking 16 + breaking 17 only + secure
 pub census-sum : (d : Description) → census d .candidates ≡ census d .breaking16 + census d .breaking17only + census d .secure

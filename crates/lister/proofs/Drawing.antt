@@ -45,9 +45,11 @@ module _ (d : Description) where
   unsorted = map (rowOf d) (keep (stands d) (securePlacements d))
 
   unsorted-once : Once unsorted
-  unsorted-once = map-once (rowOf d) (rowOf-apart d) (keep (stands d) (securePlacements d)) (keep-once (stands d) (securePlacements d) (secure-once d))
+  unsorted-once =
+      map-once (rowOf d) (rowOf-apart d) (keep (stands d) (securePlacements d)) (keep-once (stands d) (securePlacements d) (secure-once d))
 
-  unsorted-members : (r : Row) → List·Memᴰ r unsorted ↔ ((p : List ℕ) × List·Memᴰ p (securePlacements d) × (stands d p ≡ true) × (rowOf d p ≡ r))
+  unsorted-members : (r : Row)
+      → List·Memᴰ r unsorted ↔ ((p : List ℕ) × List·Memᴰ p (securePlacements d) × (stands d p ≡ true) × (rowOf d p ≡ r))
   unsorted-members r = (
     λ m.
         let (p, k, e) = Memᴰ·of-map (rowOf d) (keep (stands d) (securePlacements d)) m in
@@ -68,7 +70,8 @@ module _ (d : Description) where
   rows-rise = sort-ascends earlier-order unsorted unsorted-once
 
   -- they are the rows of the secure placements that stand for their options
-  pub rows-standing : (r : Row) → List·Memᴰ r (rows d) ↔ ((p : List ℕ) × List·Memᴰ p (securePlacements d) × (stands d p ≡ true) × (rowOf d p ≡ r))
+  pub rows-standing : (r : Row)
+      → List·Memᴰ r (rows d) ↔ ((p : List ℕ) × List·Memᴰ p (securePlacements d) × (stands d p ≡ true) × (rowOf d p ≡ r))
   unfolding rows
   rows-standing r = Iff·trans (sort-members earlier unsorted r) (unsorted-members r)
 

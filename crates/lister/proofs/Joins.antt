@@ -1,20 +1,20 @@
--- The tables of an accepted description are its tables: what the walk sees over them is said of the description.
-use Prim.Native.Nat.{ℕ, _+_, _-_, _*_, _/_, _%_, _^_, _≤_, _<_}
+-- The tables of a description that a walk may go over are its tables: what the walk sees over them is said of the description.
+use Prim.Native.Nat.{ℕ, _+_, _-_, _^_, _<_}
 use native.Mathlib.Nat.{suc-inj}
 use native.Mathlib.Omega.{arith}
 use mathlib.Core.Path.{_≡_, refl, sym, ap, subst, _∙_}
-use mathlib.Core.Bool.{Bool, true, false, not, _&&_, _||_}
+use mathlib.Core.Bool.{true, not, _&&_, _||_}
 use mathlib.Core.List.{List, [], _∷_, _++_, foldl, List·Memᴰ, Memᴰ·map}
 use mathlib.Core.Option.{Option, none, some}
 use lib.ListN.{length, getD, replicate, length-map}
-use Rattle.description.specs.Bytes.{Bytes}
 use Rattle.description.specs.Format.{Description}
 use Rattle.description.specs.Invariants.{WellFormed, Bounded}
-use Rattle.security.specs.Soundness.{read, candidates, count}
+use Rattle.security.specs.Accepted.{Admitted}
+use Rattle.security.specs.Soundness.{candidates, count}
 use Rattle.security.specs.Placements.{secure}
-use Rattle.costs.specs.Terms.{blockTerm, weightOf}
+use Rattle.costs.specs.Terms.{weightOf}
 use Rattle.costs.specs.Cost.{cost}
-use Rattle.security.proofs.Accepted.{accepted, read-wellFormed, read-bounded}
+use Rattle.security.proofs.Accepted.{admitted-bounded}
 use Rattle.costs.proofs.CostBound.{bounded-cost}
 use Rattle.costs.proofs.Weights.{weight-secure, weight-cost, weight-16}
 use Rattle.security.proofs.Candidates.{count-is-length}
@@ -30,46 +30,24 @@ use Rattle.visiting.specs.declared.visit.Task.{Task}
 use Rattle.packing.proofs.Digits.{pack-before, pack-small, digits-pack}
 use Rattle.lister.specs.declared.Row.{Row}
 use Rattle.lister.specs.declared.Cursor.{Cursor}
-use Rattle.lister.specs.declared.Figures.{Figures}
 use Rattle.lister.specs.Answers.{figuresOf}
-use Rattle.tables.specs.Building.{tablesOf, ownOf, pairsOf, pairAt, padded}
+use Rattle.tables.specs.Building.{tablesOf, padded}
 use Rattle.lister.specs.Joining.{Joined, met}
-use Rattle.lister.specs.Rows.{Census, census, securePlacements, earlier, rowOf, later, draw}
+use Rattle.lister.specs.Rows.{census, securePlacements, earlier, rowOf, later, draw}
 use Rattle.lister.specs.Seeing.{nothingSeen, TaskOf}
-use Rattle.tables.proofs.Built.{weights, allowed-is, placements-are, placement-there}
-use Rattle.lister.proofs.Counting.{census-sum}
-use Rattle.tables.proofs.Filling.{getD-table}
-use Rattle.tables.proofs.RowTest.{RowTables, tests-same}
+use Rattle.tables.proofs.Built.{weights, placements-are, placement-there}
+use Rattle.lister.proofs.Counting.{census-candidates}
+use Rattle.tables.proofs.RowTest.{row-tables, tests-same}
 use Rattle.lister.proofs.Standing.{stands-by-storage}
 use Rattle.lister.proofs.Walked.{sees-16, sees-17, sees-secure, sees-options, draws}
-use Rattle.sequences.specs.Results.{ok}
 use Rattle.sequences.specs.Lists.{before}
 use Rattle.sequences.proofs.Members.{keep-members}
 use Rattle.sequences.proofs.Orders.{before-irreflexive}
 use lib.Dec.{ltb, eqb}
 
--- what the row test looks at
-rowTables : (d : Description) → WellFormed d → RowTables d (tablesOf d)
-unfolding tablesOf ownOf pairsOf
-rowTables d w = record {
-  own = λ b k hb hk.
-      let q : (b * 8 + k) / 8 ≡ b = omega arith in
-      let r : (b * 8 + k) % 8 ≡ k = omega arith in
-      getD-table 128 (λ i. blockTerm d (i / 8) (i % 8)) (b * 8 + k) (omega arith) ∙ rw (q, r) refl;
-  allows = allowed-is d w;
-  first = λ m h.
-      let q : 2 * m / 2 ≡ m = omega arith in
-      let r : 2 * m % 2 ≡ 0 = omega arith in
-      getD-table 32 (pairAt d) (2 * m) (omega arith) ∙ rw (q, r) refl;
-  second = λ m h.
-      let q : (2 * m + 1) / 2 ≡ m = omega arith in
-      let r : (2 * m + 1) % 2 ≡ 1 = omega arith in
-      getD-table 32 (pairAt d) (2 * m + 1) (omega arith) ∙ rw (q, r) refl;
-}
-
-pub joined : (s : List ℕ) (d : Description) → Bytes s → read s ≡ ok d → Joined d (tablesOf d)
+pub joined : (d : Description) → Admitted d → Joined d (tablesOf d)
 unfolding securePlacements
-joined s d b a = record {
+joined d a = record {
   candidatesAre = placements-are d w;
   sized = λ q m. placement-there d w q m .0;
   low = placement-low;
@@ -77,15 +55,15 @@ joined s d b a = record {
   costIs = λ q m h. weighs q m ∙ weight-cost d (padded d q) bounded h;
   breaksIs = λ q m h. ap breaks16 (weighs q m) ∙ sym (weight-16 d (padded d q) bounded);
   standsIs = λ q m h.
-      tests-same d w (tablesOf d) (rowTables d w) q (placement-low q m) ∙
-      sym (stands-by-storage s d a (padded d q) (secure-member q m h));
+      tests-same d w (tablesOf d) (row-tables d w) q (placement-low q m) ∙
+      sym (stands-by-storage d w (padded d q) (secure-member q m h));
 }
   where
     w : WellFormed d
-    w = read-wellFormed s d a
+    w = a .wellFormed
 
     bounded : Bounded d
-    bounded = read-bounded s d a b
+    bounded = admitted-bounded a
 
     placement-low : (q : List ℕ) → List·Memᴰ q (met d (tablesOf d)) → (b : ℕ) → getD q b 0 < 8
     placement-low q m b = omega (arith, placement-there d w q m .1 b, w .limits .clouds)
@@ -137,10 +115,10 @@ pub record Sees (d : Description) (r : Seen) : Type 0 where
   pub secure : r .secure ≡ census d .secure
   pub options : r .rows ≡ census d .options
 
-pub counted-by : (s : List ℕ) (d : Description) → Bytes s → read s ≡ ok d → (r : Seen)
+pub counted-by : (d : Description) → Admitted d → (r : Seen)
     → r ≡ seeAll (tablesOf d) (length (d .clouds)) (length (d .blocks)) (record { counting = true; cost = 0; place = 0 }) nothingSeen → Sees d r
-counted-by s d b a r e =
-    let j = joined s d b a in
+counted-by d a r e =
+    let j = joined d a in
     let task : Task = record { counting = true; cost = 0; place = 0 } in
     record {
       sixteen = ap (λ x. x .breaking16) e ∙ sees-16 d (tablesOf d) j task refl nothingSeen refl;
@@ -149,16 +127,16 @@ counted-by s d b a r e =
       options = ap (λ x. x .rows) e ∙ sees-options d (tablesOf d) j task refl nothingSeen refl;
     }
 
-pub census-is : (d : Description) (r : Seen) → Sees d r
+pub census-is : (d : Description) (candidates : ℕ) (r : Seen) → candidates ≡ count d → Sees d r
     → figuresOf (record {
-      candidates = r .breaking16 + r .breaking17only + r .secure;
+      candidates = candidates;
       breaking16 = r .breaking16;
       breaking17only = r .breaking17only;
       secure = r .secure;
       options = r .rows;
     }) ≡ census d
-census-is d r h =
-    let all : r .breaking16 + r .breaking17only + r .secure ≡ census d .candidates = rw (h .sixteen, h .seventeen, h .secure) (sym (census-sum d)) in
+census-is d candidates r e h =
+    let all : candidates ≡ census d .candidates = e ∙ sym (census-candidates d) in
     λ i. record {
       candidates = all i;
       breaking16 = h .sixteen i;
@@ -166,11 +144,6 @@ census-is d r h =
       secure = h .secure i;
       options = h .options i;
     }
-
--- at most 65,536 candidates were accepted
-pub candidates-few : (s : List ℕ) (d : Description) → read s ≡ ok d → census d .candidates ≤ 65536
-unfolding census
-candidates-few s d a = subst (λ (n : ℕ). n ≤ 65536) (sym (count-is-length d)) (accepted s d a .few)
 
 -- ---- the draw
 
@@ -181,14 +154,16 @@ KeptRow d (some row) r =
     (q : List ℕ) × (length q ≡ length (d .blocks)) × ((i : ℕ) → lib.ListN.getD q i 0 < 8) × (rowOf d (padded d q) ≡ row) × (r .cost ≡ row .cost) ×
     (row .cost < 2 ^ 53) × (r .place ≡ pack q)
 
-pub kept-by : (s : List ℕ) (d : Description) → Bytes s → read s ≡ ok d → (c : Cursor) (t : Task) → TaskOf c (length (d .blocks)) t → (r : Seen)
+pub kept-by : (d : Description) → Admitted d → (c : Cursor) (t : Task) → TaskOf c (length (d .blocks)) t → (r : Seen)
     → r ≡ seeAll (tablesOf d) (length (d .clouds)) (length (d .blocks)) t nothingSeen → KeptRow d (draw d c) r
-kept-by s d b a c t h r e = subst (KeptRow d (draw d c)) (sym e) (go (draw d c) (draws d (tablesOf d) j c t (ordered d j) floor (h .draws) nothingSeen refl))
+kept-by d a c t h r e =
+    subst (KeptRow d (draw d c)) (sym e) (go (draw d c) (draws d (tablesOf d) j c t (ordered d j) floor (h .draws) nothingSeen refl))
   where
     j : Joined d (tablesOf d)
-    j = joined s d b a
+    j = joined d a
 
-    floor : (q : List ℕ) → List·Memᴰ q (met d (tablesOf d)) → later c (rowOf d (padded d q)) ≡ not (earlierWalk (cost d (padded d q)) (pack q) (t .cost) (t .place))
+    floor : (q : List ℕ) → List·Memᴰ q (met d (tablesOf d))
+        → later c (rowOf d (padded d q)) ≡ not (earlierWalk (cost d (padded d q)) (pack q) (t .cost) (t .place))
     floor q m = h .floor (cost d (padded d q)) q (j .sized q m) (j .low q m)
 
     go : (o : Option Row) → Kept earlier (later c) (λ q. rowOf d (padded d q)) (λ x. x .cost) (λ q. weight (tablesOf d) (length (d .blocks)) q) pack
@@ -202,7 +177,7 @@ kept-by s d b a c t h r e = subst (KeptRow d (draw d c)) (sym e) (go (draw d c) 
       j .low q m,
       same,
       price ∙ ap (λ x. x .cost) same,
-      subst (λ x. x .cost < 2 ^ 53) same (bounded-cost d (padded d q) (read-bounded s d a b)),
+      subst (λ x. x .cost < 2 ^ 53) same (bounded-cost d (padded d q) (admitted-bounded a)),
       packed,
     )
 

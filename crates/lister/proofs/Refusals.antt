@@ -1,6 +1,7 @@
 -- Census and Draw refuse as Read does.
 use Prim.Native.Nat.{ℕ}
 use mathlib.Core.List.{List}
+use Rattle.description.specs.Bytes.{decidingBytes}
 use Rattle.sequences.specs.Results.{ok, RefusalWithin}
 use Rattle.sequences.proofs.Results.{within-andThen}
 use Rattle.security.specs.Soundness.{read}
@@ -9,10 +10,10 @@ use Rattle.lister.specs.declared.Cursor.{Cursor}
 use Rattle.lister.specs.Rows.{census, draw}
 use Rattle.lister.specs.Calls.{censusCall, drawCall}
 
-pub censusCall-within : (s : List ℕ) → RefusalWithin 12 346 (censusCall s)
+pub censusCall-within : (s : List ℕ) → RefusalWithin 12 decidingBytes (censusCall s)
 unfolding censusCall
-censusCall-within s = within-andThen 12 346 (read s) (λ d. ok (census d)) (read-within s) (λ d e. tt)
+censusCall-within s = within-andThen 12 decidingBytes (read s) (λ d. ok (census d)) (read-within s) (λ d e. tt)
 
-pub drawCall-within : (s : List ℕ) (c : Cursor) → RefusalWithin 12 346 (drawCall s c)
+pub drawCall-within : (s : List ℕ) (c : Cursor) → RefusalWithin 12 decidingBytes (drawCall s c)
 unfolding drawCall
-drawCall-within s c = within-andThen 12 346 (read s) (λ d. ok (draw d c)) (read-within s) (λ d e. tt)
+drawCall-within s c = within-andThen 12 decidingBytes (read s) (λ d. ok (draw d c)) (read-within s) (λ d e. tt)

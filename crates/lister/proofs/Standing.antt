@@ -1,4 +1,4 @@
--- Which secure placements stand for their options: exactly one for each option, the first by cost and then bytes; and for an accepted
+-- Which secure placements stand for their options: exactly one for each option, the first by cost and then bytes; and for a well formed
 -- description the tests of `rules` that look at one datum at a time tell which.
 use Prim.Native.Nat.{ℕ}
 use mathlib.Core.Path.{_≡_, sym, _∙_}
@@ -6,18 +6,17 @@ use mathlib.Core.Logic.{_↔_, _⊎_}
 use mathlib.Core.Bool.{true, true≢false}
 use mathlib.Core.List.{List, List·Memᴰ}
 use Rattle.description.specs.Format.{Description}
-use Rattle.security.specs.Soundness.{read, candidates}
+use Rattle.description.specs.Invariants.{WellFormed}
+use Rattle.security.specs.Soundness.{candidates}
 use Rattle.security.specs.Placements.{secure}
 use Rattle.rules.specs.Options.{sameOption}
 use Rattle.rules.specs.Representatives.{standsLocally, standsByStorage, SecureCandidate, First}
-use Rattle.security.proofs.Accepted.{read-wellFormed}
 use Rattle.rules.proofs.Options.{sameOption-equivalence}
 use Rattle.rules.proofs.Representatives.{local-is-global}
 use Rattle.rules.proofs.Storage.{storage-is-local}
 use Rattle.lister.specs.Rows.{securePlacements, earlier, rowOf, stands}
 use Rattle.lister.proofs.RowOrder.{earlier-order, rowOf-apart}
 use Rattle.sequences.specs.Orders.{StrictOrder, Represented}
-use Rattle.sequences.specs.Results.{ok}
 use Rattle.sequences.proofs.Agreeing.{tests-agree}
 use Rattle.sequences.proofs.Members.{keep-members}
 use Rattle.sequences.proofs.Orders.{pulled-back}
@@ -60,14 +59,14 @@ module _ (d : Description) where
         λ h. first .1 (λ q m same. not-passed _ (h q (secure-members q .0 m) same)),
       )
 
-module _ (s : List ℕ) (d : Description) (accepted : read s ≡ ok d) (p : List ℕ) (member : List·Memᴰ p (securePlacements d)) where
-  -- A secure placement of an accepted description stands for its option exactly where no datum does better on another cloud.
+module _ (d : Description) (w : WellFormed d) (p : List ℕ) (member : List·Memᴰ p (securePlacements d)) where
+  -- A secure placement of a well formed description stands for its option exactly where no datum does better on another cloud.
   pub stands-locally : stands d p ≡ standsLocally d p
   stands-locally =
       let first = standing-first d p in
-      let local = local-is-global d (read-wellFormed s d accepted) p (secure-members d p .0 member) in
+      let local = local-is-global d w p (secure-members d p .0 member) in
       tests-agree (stands d p) (standsLocally d p) (λ t. local .1 (first .0 t), λ t. first .1 (local .0 t))
 
   -- That is: exactly where no block is stored cheaper where it can move to.
   pub stands-by-storage : stands d p ≡ standsByStorage d p
-  stands-by-storage = stands-locally ∙ sym (storage-is-local d (read-wellFormed s d accepted) p (secure-members d p .0 member))
+  stands-by-storage = stands-locally ∙ sym (storage-is-local d w p (secure-members d p .0 member))

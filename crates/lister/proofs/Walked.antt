@@ -1,10 +1,9 @@
 -- A walk over the tables of a description that counts sees its census, and one that draws keeps the row that the draw answers.
-use Prim.Native.Nat.{ℕ, suc, _+_, _^_}
+use Prim.Native.Nat.{ℕ, _^_}
 use native.Mathlib.Nat.{zero-add}
-use native.Mathlib.Omega.{arith}
 use mathlib.Core.Path.{_≡_, refl, sym, ap, subst, _∙_}
 use mathlib.Core.Bool.{Bool, true, false, not, _&&_, _||_, cond, and-false, true≢false}
-use mathlib.Core.List.{List, [], _∷_, map, foldl, foldl-map, List·Memᴰ, List·Memᴰ·head, List·Memᴰ·tail}
+use mathlib.Core.List.{List, [], _∷_, foldl, foldl-map, List·Memᴰ, List·Memᴰ·head, List·Memᴰ·tail}
 use mathlib.Core.Option.{Option, none, some}
 use lib.ListN.{length, length-map}
 use borrow.Author.Tests.{not-true}
@@ -42,7 +41,8 @@ unfolding securePlacements
 rows-number d = rows-length d ∙ ap length (keep-both (secure d) (stands d) (candidates d))
 
 -- two folds whose steps agree on the elements
-foldl-agree : {A B : Type 0} (f g : B → A → B) (l : List A) → ((b : B) (a : A) → List·Memᴰ a l → f b a ≡ g b a) → (b : B) → foldl f b l ≡ foldl g b l
+foldl-agree : {A B : Type 0} (f g : B → A → B) (l : List A) → ((b : B) (a : A) → List·Memᴰ a l → f b a ≡ g b a)
+    → (b : B) → foldl f b l ≡ foldl g b l
 foldl-agree f g [] h b = refl
 foldl-agree f g (a ∷ l) h b =
     ap (λ x. foldl f x l) (h b a (List·Memᴰ·head refl)) ∙ foldl-agree f g l (λ x y m. h x y (List·Memᴰ·tail m)) (g b a)
@@ -72,11 +72,16 @@ module _ (d : Description) (t : Tables) (j : Joined d t) where
       go true e = sym (not-true _ (both-pass _ _ .0 e .0))
       go false e = j .breaksIs q m e
 
-  is-17 : (q : List ℕ) → List·Memᴰ q (met d t) → (not (isSecure (W q)) && not (breaks16 (W q))) ≡ (not (broken16 d (padded d q)) && broken17 d (padded d q))
+  is-17 : (q : List ℕ) → List·Memᴰ q (met d t)
+      → (not (isSecure (W q)) && not (breaks16 (W q))) ≡ (not (broken16 d (padded d q)) && broken17 d (padded d q))
   is-17 q m = ap (λ x. x && not (breaks16 (W q))) (insecure q m) ∙ go (secure d (padded d q)) refl
     where
-      go : (b : Bool) → secure d (padded d q) ≡ b → (not b && not (breaks16 (W q))) ≡ (not (broken16 d (padded d q)) && broken17 d (padded d q))
-      go true e = sym (ap (λ y. not (broken16 d (padded d q)) && y) (not-true (broken17 d (padded d q)) (both-pass (not (broken16 d (padded d q))) (not (broken17 d (padded d q))) .0 e .1)) ∙ and-false (not (broken16 d (padded d q))))
+      go : (b : Bool) → secure d (padded d q) ≡ b
+          → (not b && not (breaks16 (W q))) ≡ (not (broken16 d (padded d q)) && broken17 d (padded d q))
+      go true e =
+          let x = not (broken16 d (padded d q)) in
+          let y = broken17 d (padded d q) in
+          sym (ap (λ z. x && z) (not-true y (both-pass x (not y) .0 e .1)) ∙ and-false x)
       go false e = ap not (j .breaksIs q m e) ∙ rest (broken16 d (padded d q)) (broken17 d (padded d q)) e
         where
           rest : (x y : Bool) → (not x && not y) ≡ false → not x ≡ (not x && y)
@@ -115,7 +120,8 @@ module _ (d : Description) (t : Tables) (j : Joined d t) where
   -- cursor's.
   module _ (c : Cursor) (task : Task)
       (ordered : (q r : List ℕ) → List·Memᴰ q (met d t) → List·Memᴰ r (met d t) → before (padded d q) (padded d r) ≡ ltb (pack q) (pack r))
-      (floor : (q : List ℕ) → List·Memᴰ q (met d t) → later c (rowOf d (padded d q)) ≡ not (walkEarlier (cost d (padded d q)) (pack q) (task .cost) (task .place)))
+      (floor : (q : List ℕ) → List·Memᴰ q (met d t)
+      → later c (rowOf d (padded d q)) ≡ not (walkEarlier (cost d (padded d q)) (pack q) (task .cost) (task .place)))
       (drawing : task .counting ≡ false) where
     abbrev row : List ℕ → Row
     row q = rowOf d (padded d q)
@@ -128,7 +134,8 @@ module _ (d : Description) (t : Tables) (j : Joined d t) where
       drawing = drawing;
       secureIs = j .secureIs;
       priceIs = j .costIs;
-      orderIs = λ q r a b. ap (λ x. ltb (cost d (padded d q)) (cost d (padded d r)) || (eqb (cost d (padded d q)) (cost d (padded d r)) && x)) (ordered q r a b);
+      orderIs = λ q r a b.
+          ap (λ x. ltb (cost d (padded d q)) (cost d (padded d r)) || (eqb (cost d (padded d q)) (cost d (padded d r)) && x)) (ordered q r a b);
       laterIs = floor;
     }
 

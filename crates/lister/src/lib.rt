@@ -1,32 +1,32 @@
 // All placements of a description, through what `rules` promises of one: census, rows and draw.
 ghost use mathlib.Core.Path.{_≡_};
 ghost use Prim.Native.Nat.{_≤_};
-ghost use lib.ListN.{length};
 ghost use Rattle.sequences.specs.Results.{ok};
-ghost use Rattle.description.specs.Invariants.{WellFormed, InRange};
 ghost use Rattle.description.specs.Meaning.{describes};
-ghost use Rattle.security.specs.Soundness.{read};
-ghost use Rattle.walk.specs.Walking.{seeAll, keepAll};
+ghost use Rattle.security.specs.Accepted.{Admitted};
+ghost use Rattle.security.specs.Soundness.{count};
 ghost use Rattle.lister.specs.Answers.{censusAnswer, drawAnswer, figuresOf, rowBeside, zeroRow};
-ghost use Rattle.tables.specs.Building.{tablesOf};
 ghost use Rattle.lister.specs.Calls.{censusCall, drawCall};
 ghost use Rattle.lister.specs.Rows.{census, draw};
-ghost use Rattle.lister.specs.Seeing.{nothingSeen, TaskOf};
-use description::workflow::Outcome;
+ghost use Rattle.lister.specs.Seeing.{nothingSeen, seenOf, keptOf, TaskOf};
+use description::words::WORDS;
+use description::words::Words;
 use description::workflow::Refusal;
-use description::workflow::Workflow;
 use description::workflow::block_count;
 use description::workflow::cloud_count;
 use packing::floor::floor_place;
 use packing::packing::unpacked;
 use rules::acceptance::accept;
-use security::soundness::candidate_count;
+use rules::answers::Admission;
 use visiting::visit::Seen;
 use visiting::visit::Task;
 use visiting::visit::seen_of;
 use visiting::visit::seen_words;
 use visiting::visit::task_words;
 use walk::walk::walk_all;
+
+// 2^53, which is above every cost: the cost that is kept where no row is.
+const NO_COST: u64 = 9007199254740992;
 
 // Document 01's "row": the cost and the sixteen cloud numbers of the placement that stands for its option.
 pub struct Row {
@@ -68,35 +68,44 @@ pub struct Drawn {
     pub row: Row,
 }
 
-// All placements of a workflow are seen, once each; the rows that are counted are kept in lent words, as many as fit.
-pub fn seen_by(w: Workflow, task: Task, kept: &mut [u64]) -> Seen
-    requires { ⌜ WellFormed (describes w) ⌝ }
-    requires { ⌜ InRange (describes w) ⌝ }
-    ensures { λ r. ⌜ r ≡ seeAll (tablesOf (describes w)) (length (describes w .clouds)) (length (describes w .blocks)) task nothingSeen ⌝ }
-    ensures { λ _. ⌜ now (kept .exit) ≡ keepAll (tablesOf (describes w)) (length (describes w .clouds)) (length (describes w .blocks)) task nothingSeen (now (kept .entry)) ⌝ }
+fn nothing_seen() -> Seen
+    ensures { λ r. ⌜ r ≡ nothingSeen ⌝ }
 {
-    let nothing = Seen {
+    Seen {
         breaking16: 0,
         breaking17only: 0,
         secure: 0,
         rows: 0,
-        cost: 9007199254740992,
+        cost: NO_COST,
         place: 0,
-    };
-    // Where a block may stand nowhere there is nothing to see, and the walk would try all clouds of the blocks before it.
-    if candidate_count(w) == 0 {
-        return nothing;
     }
-    let own = tables::own(w);
-    let terms = tables::terms(w);
-    let ends = tables::ends(w);
-    let starts = tables::starts(w);
-    let masks = tables::masks(w);
-    let pairs = tables::pairs(w);
+}
+
+// All placements of a workflow are seen, once each; the rows that are counted are kept in lent words, as many as fit.
+fn walk_over(w: &Words, task: Task, kept: &mut [u64]) -> Seen
+    requires { ⌜ Admitted (describes (now w)) ⌝ }
+    ensures { λ r. ⌜ r ≡ seenOf (describes (now (w .entry))) task ⌝ }
+    ensures { λ _. ⌜ now (kept .exit) ≡ keptOf (describes (now (w .entry))) task (now (kept .entry)) ⌝ }
+{
+    let mut own = [0u64; 128];
+    let mut terms = [0u64; 2048];
+    let mut ends = [0u8; 64];
+    let mut starts = [0u8; 17];
+    let mut masks = [0u8; 16];
+    let mut pairs = [0u8; 32];
+    tables::fill(
+        w,
+        &mut own,
+        &mut terms,
+        &mut ends,
+        &mut starts,
+        &mut masks,
+        &mut pairs,
+    );
     let clouds = cloud_count(w) as u64;
     let blocks = block_count(w);
     let asked = task_words(task);
-    let mut seen = seen_words(nothing);
+    let mut seen = seen_words(nothing_seen());
     walk_all(
         &own,
         &terms,
@@ -113,9 +122,23 @@ pub fn seen_by(w: Workflow, task: Task, kept: &mut [u64]) -> Seen
     seen_of(seen)
 }
 
-pub fn count_all(description: &[u8], w: Workflow) -> Figures
-    requires { ⌜ read (now description) ≡ ok (describes w) ⌝ }
-    ensures { λ r. ⌜ figuresOf r ≡ census (describes w) ⌝ }
+// The same; where a block may stand nowhere there is nothing to see, and the walk would try all clouds of the blocks before it.
+pub fn seen_by(w: &Words, candidates: u64, task: Task, kept: &mut [u64]) -> Seen
+    requires { ⌜ Admitted (describes (now w)) ⌝ }
+    requires { ⌜ candidates ≡ count (describes (now w)) ⌝ }
+    ensures { λ r. ⌜ r ≡ seenOf (describes (now (w .entry))) task ⌝ }
+    ensures { λ _. ⌜ now (kept .exit) ≡ keptOf (describes (now (w .entry))) task (now (kept .entry)) ⌝ }
+{
+    if candidates == 0 {
+        return nothing_seen();
+    }
+    walk_over(w, task, kept)
+}
+
+pub fn count_all(w: &Words, candidates: u64) -> Figures
+    requires { ⌜ Admitted (describes (now w)) ⌝ }
+    requires { ⌜ candidates ≡ count (describes (now w)) ⌝ }
+    ensures { λ r. ⌜ figuresOf r ≡ census (describes (now (w .entry))) ⌝ }
 {
     let task = Task {
         counting: true,
@@ -123,9 +146,9 @@ pub fn count_all(description: &[u8], w: Workflow) -> Figures
         place: 0,
     };
     let mut none = [0u64; 1];
-    let s = seen_by(w, task, &mut none);
+    let s = seen_by(w, candidates, task, &mut none);
     Figures {
-        candidates: s.breaking16 + s.breaking17only + s.secure,
+        candidates,
         breaking16: s.breaking16,
         breaking17only: s.breaking17only,
         secure: s.secure,
@@ -137,12 +160,11 @@ pub fn count_all(description: &[u8], w: Workflow) -> Figures
 pub fn census(description: &[u8]) -> Counted
     ensures { λ r. ⌜ censusAnswer r ≡ censusCall (now (description .entry)) ⌝ }
 {
-    let a = accept(description);
-    let outcome = a.outcome;
-    let w = a.workflow;
-    match outcome {
-        Outcome::Accepted => Counted::Counts(count_all(description, w)),
-        Outcome::Refused(r) => Counted::Refused(r),
+    let mut w = [0u32; WORDS];
+    let admission = accept(description, &mut w);
+    match admission {
+        Admission::Accepted(candidates) => Counted::Counts(count_all(&w, candidates)),
+        Admission::Refused(r) => Counted::Refused(r),
     }
 }
 
@@ -177,16 +199,17 @@ fn without_row(answer: Answer) -> Drawn
     }
 }
 
-fn row_past(description: &[u8], w: Workflow, cursor: Cursor) -> Drawn
-    requires { ⌜ read (now description) ≡ ok (describes w) ⌝ }
-    ensures { λ r. ⌜ drawAnswer r ≡ ok (draw (describes w) cursor) ⌝ }
-    ensures { λ r. ⌜ r .row ≡ rowBeside (ok (draw (describes w) cursor)) ⌝ }
+fn row_past(w: &Words, candidates: u64, cursor: Cursor) -> Drawn
+    requires { ⌜ Admitted (describes (now w)) ⌝ }
+    requires { ⌜ candidates ≡ count (describes (now w)) ⌝ }
+    ensures { λ r. ⌜ drawAnswer r ≡ ok (draw (describes (now (w .entry))) cursor) ⌝ }
+    ensures { λ r. ⌜ r .row ≡ rowBeside (ok (draw (describes (now (w .entry))) cursor)) ⌝ }
 {
     let blocks = block_count(w);
     let task = task_of(cursor, blocks);
     let mut none = [0u64; 1];
-    let s = seen_by(w, task, &mut none);
-    if s.cost == 9007199254740992 {
+    let s = seen_by(w, candidates, task, &mut none);
+    if s.cost == NO_COST {
         return without_row(Answer::Finished);
     }
     Drawn {
@@ -203,11 +226,10 @@ pub fn draw(description: &[u8], cursor: Cursor) -> Drawn
     ensures { λ r. ⌜ drawAnswer r ≡ drawCall (now (description .entry)) cursor ⌝ }
     ensures { λ r. ⌜ r .row ≡ rowBeside (drawCall (now (description .entry)) cursor) ⌝ }
 {
-    let a = accept(description);
-    let outcome = a.outcome;
-    let w = a.workflow;
-    match outcome {
-        Outcome::Accepted => row_past(description, w, cursor),
-        Outcome::Refused(r) => without_row(Answer::Refused(r)),
+    let mut w = [0u32; WORDS];
+    let admission = accept(description, &mut w);
+    match admission {
+        Admission::Accepted(candidates) => row_past(&w, candidates, cursor),
+        Admission::Refused(r) => without_row(Answer::Refused(r)),
     }
 }

@@ -2,15 +2,16 @@
 -- them; of what is refused there is the last line alone.
 use Prim.Native.Nat.{ℕ, zero, suc, _+_, _-_, _*_, _/_, _^_, _≤_, _<_, min}
 use native.Mathlib.Omega.{arith}
-use mathlib.Core.Path.{_≡_, refl, sym, ap, ap₂, subst, _∙_}
+use mathlib.Core.Path.{_≡_, refl, sym, ap, ap₂, _∙_}
 use mathlib.Core.List.{List, [], _∷_, _++_, map, List·Memᴰ, List·Memᴰ·head, List·Memᴰ·tail}
 use lib.ListN.{length, getD, take, drop, replicate, length-append, length-take, length-map}
 use lib.Seq.{take-at, take-all, take-nil}
 use Rattle.sequences.specs.Results.{Result, ok, refused}
-use Rattle.description.specs.Bytes.{Bytes}
+use Rattle.description.specs.Bytes.{Bytes, decidingBytes}
 use Rattle.description.specs.Format.{Description}
+use Rattle.security.specs.Accepted.{Admitted}
 use Rattle.security.specs.Soundness.{read}
-use Rattle.security.proofs.Accepted.{accepted, read-wellFormed, read-front}
+use Rattle.security.proofs.Accepted.{read-admitted, read-front}
 use Rattle.packing.specs.Packing.{digits as clouds}
 use Rattle.packing.proofs.Digits.{digits-length}
 use Rattle.sorting.specs.Rows.{flat}
@@ -18,7 +19,7 @@ use Rattle.sorting.proofs.Rows.{length-flat}
 use Rattle.lister.specs.declared.Row.{Row}
 use Rattle.lister.specs.Rows.{rows}
 use Rattle.enumeration.specs.WholeList.{rowWords, listed, needed, listCall, rowsAfter}
-use Rattle.enumeration.proofs.Answers.{fitting as rowsFit, refusing, fits-room}
+use Rattle.enumeration.proofs.Answers.{call-goes, rows-go, fitting as rowsFit, fits-room}
 use Rattle.enumeration.proofs.RowsInWords.{rows-few, words-row}
 use Rattle.listing.specs.Lines.{ascii, digit, decimal, rowLine, optionsLine, refusalLine, written}
 use Rattle.listing.specs.RowLines.{wordsLine, linesOf, fitting, rowsText}
@@ -42,7 +43,7 @@ unfolding flat
 lines-of-rows d n [] h = refl
 lines-of-rows d n (r ∷ rs) h = ap₂ _++_ (h r (List·Memᴰ·head refl)) (lines-of-rows d n rs (λ x m. h x (List·Memᴰ·tail m)))
 
-module _ (s : List ℕ) (d : Description) (bytes : Bytes s) (a : read s ≡ ok d) where
+module _ (d : Description) (a : Admitted d) where
   abbrev n : ℕ
   n = length (d .blocks)
 
@@ -53,7 +54,7 @@ module _ (s : List ℕ) (d : Description) (bytes : Bytes s) (a : read s ≡ ok d
       let packed = clouds n (rowWords d r .1) in
       let size = digits-length n (rowWords d r .1) in
       let same : take n packed ≡ take n (r .placement) =
-      take-all n packed (omega arith) ∙ sym (take-at packed (replicate (16 - n) 0) n size) ∙ ap (take n) (words-row s d bytes a r m) in
+      take-all n packed (omega arith) ∙ sym (take-at packed (replicate (16 - n) 0) n size) ∙ ap (take n) (words-row d a r m) in
       ap (λ l. decimal (r .cost) ++ ascii " " ++ map digit l ++ ascii "\n") same
 
   listed-length : length (listed d) ≡ needed d
@@ -65,16 +66,17 @@ module _ (s : List ℕ) (d : Description) (bytes : Bytes s) (a : read s ≡ ok d
   listed-lines = lines-of-rows d n (rows d) row-line
 
   few : length (rows d) ≤ 65536
-  few = omega (arith, rows-few s d bytes a, accepted s d a .few)
+  few = omega (arith, rows-few d a, a .few)
 
   -- all lines fit
   pub listed-text : (words text : List ℕ) → length text ≡ heldBytes
       → rowsText (take (length (rows d) * 2) (listed d ++ words)) n text ≡ rowLines n (rows d)
   listed-text words text h =
       let fit : min (length (listed d) / 2) (length text / 38) * 2 ≡ length (listed d) = omega (arith, listed-length, few) in
-      let sixteen : min n 16 ≡ n = omega (arith, read-wellFormed s d a .limits .blocks) in
+      let sixteen : min n 16 ≡ n = omega (arith, a .wellFormed .limits .blocks) in
       ap (λ w. rowsText w n text) (take-at (listed d) words (length (rows d) * 2) listed-length)
-      ∙ ap₂ (λ (b k : ℕ). linesOf b (take k (listed d))) sixteen fit ∙ ap (linesOf n) (take-all (length (listed d)) (listed d) (omega arith)) ∙ listed-lines
+      ∙ ap₂ (λ (b k : ℕ). linesOf b (take k (listed d))) sixteen fit
+      ∙ ap (linesOf n) (take-all (length (listed d)) (listed d) (omega arith)) ∙ listed-lines
 
 -- the text that the rows' lines make, of what List answers and leaves
 abbrev pub rowsMade : Result (ℕ × ℕ) → (after text : List ℕ) → List ℕ
@@ -91,7 +93,8 @@ pub room-left : (answer : Result (ℕ × ℕ)) (after text : List ℕ) → rowsO
 room-left answer after text few h words =
     let w = take (rowsOf answer * 2) after in
     let k = fitting w text * 2 in
-    let lines = lines-few (min (blocksOf answer) 16) (take k w) (omega arith) (taken-below (2 ^ 64) k w (taken-below (2 ^ 64) (rowsOf answer * 2) after words)) in
+    let below = taken-below (2 ^ 64) k w (taken-below (2 ^ 64) (rowsOf answer * 2) after words) in
+    let lines = lines-few (min (blocksOf answer) 16) (take k w) (omega arith) below in
     omega (arith, lines, length-take k w, length-take (rowsOf answer * 2) after)
 
 -- THE LINES AND THE LAST ONE ARE WHAT IS PRINTED
@@ -100,14 +103,15 @@ pub made : (s words text : List ℕ) → Bytes s → length text ≡ heldBytes
 unfolding printed
 made s words text bytes h = go (read s) refl
   where
-    go : (x : Result Description) → read s ≡ x → rowsMade (listCall s heldWords) (rowsAfter s heldWords words) text ++ lastLine (listCall s heldWords) ≡ printedFor x
-    go (ok d) a =
-        let l = rowsFit s heldWords d a (omega (arith, few s d bytes a)) in
-        ap₂ (λ x w. rowsMade x w text ++ lastLine x) (l .answers) (l .rows words)
-        ∙ ap (λ t. t ++ optionsLine (length (rows d))) (listed-text s d bytes a (drop (needed d) words) text h)
+    go : (x : Result Description) → read s ≡ x
+        → rowsMade (listCall s heldWords) (rowsAfter s heldWords words) text ++ lastLine (listCall s heldWords) ≡ printedFor x
+    go (ok d) e =
+        let a = read-admitted s d e bytes in
+        let l = rowsFit d heldWords (omega (arith, few d a)) in
+        ap₂ (λ x w. rowsMade x w text ++ lastLine x) (call-goes s heldWords e ∙ l .answers) (rows-go s heldWords e words ∙ l .rows words)
+        ∙ ap (λ t. t ++ optionsLine (length (rows d))) (listed-text d a (drop (needed d) words) text h)
     go (refused number place) e =
-        let l = refusing s heldWords number place e in
-        ap₂ (λ x w. rowsMade x w text ++ lastLine x) (l .answers) (l .rows words)
+        ap₂ (λ x w. rowsMade x w text ++ lastLine x) (call-goes s heldWords e) (rows-go s heldWords e words)
         ∙ ap (λ w. linesOf (min 0 16) w ++ refusalLine number place) (take-nil (fitting [] text * 2))
 
 -- so the last line, put behind the rows' lines, makes all of it
@@ -128,7 +132,7 @@ all-made s words text bytes h {answer} {after} {made₁} {made₂} {end₁} {end
 pub text-within : (text old : List ℕ) {now : List ℕ} {end : ℕ} → end ≡ length text → now ≡ written text old 0 → end ≤ length now
 text-within text old e h = omega (arith, e, ap length h ∙ length-append text (drop (0 + length text) old))
 
--- Of longer input the first 346 bytes decide what is printed, so that the program need not read more than its buffer takes.
-pub printed-front : (s : List ℕ) (n : ℕ) → 346 ≤ n → printed (take n s) ≡ printed s
+-- Of longer input the first `decidingBytes` decide what is printed, so that the program need not read more than its buffer takes.
+pub printed-front : (s : List ℕ) (n : ℕ) → decidingBytes ≤ n → printed (take n s) ≡ printed s
 unfolding printed
 printed-front s n h = ap printedFor (read-front s n h)

@@ -75,7 +75,7 @@ fn bytes() -> [u8; 2490432]
     [0; 2490432]
 }
 
-// Of input longer than 346 bytes the first 346 decide (`printed-front`): what does not fit into the buffer need not be read.
+// Of longer input the first `decidingBytes` decide (`printed-front`): what does not fit into the buffer need not be read.
 fn main() {
     if !can_read() {
         os::fail(b"listoptions: standard input");

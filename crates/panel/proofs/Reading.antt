@@ -5,7 +5,7 @@ use mathlib.Core.Path.{refl}
 use mathlib.Core.List.{List}
 use Rattle.sequences.specs.Results.{Result, ok, refused, RefusalWithin}
 use Rattle.sequences.proofs.Results.{within-more}
-use Rattle.description.specs.Bytes.{Bytes}
+use Rattle.description.specs.Bytes.{Bytes, decidingBytes}
 use Rattle.rules.specs.Calls.{readCall, judgeCall, transfersCall}
 use Rattle.rules.proofs.Refusals.{readCall-within, judgeCall-within, transfersCall-within}
 use Rattle.lister.specs.Calls.{censusCall, drawCall}
@@ -19,7 +19,7 @@ module _ {A : Type 0} where
   readable (ok a) w = refl
   readable (refused number place) w = (omega arith, omega arith, omega arith)
 
-  sooner : (numbers : ℕ) → numbers ≤ 16 → (r : Result A) → RefusalWithin numbers 346 r → Readable r
+  sooner : (numbers : ℕ) → numbers ≤ 16 → (r : Result A) → RefusalWithin numbers decidingBytes r → Readable r
   sooner numbers h r w = readable r (within-more 16 131072 h (omega arith) r w)
 
 -- OF A REFUSAL NOTHING IS LOST

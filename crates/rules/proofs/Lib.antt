@@ -1,3 +1,4 @@
+pub mod Admissions
 pub mod Ends
 pub mod Judged
 pub mod Locality

@@ -1,5 +1,5 @@
 -- Which numbers Read, Judge and Transfers refuse with, and how high their places are.
-use Prim.Native.Nat.{ℕ, suc, _*_, _≤_}
+use Prim.Native.Nat.{ℕ, suc, _≤_}
 use native.Mathlib.Omega.{arith}
 use mathlib.Core.Path.{_≡_}
 use mathlib.Core.Bool.{Bool, true, false, cond}
@@ -8,6 +8,7 @@ use lib.ListN.{length}
 use lib.Dec.{ltb}
 use Rattle.sequences.specs.Results.{ok, refused, andThen, RefusalWithin}
 use Rattle.sequences.proofs.Results.{within-more, within-cond, within-andThen}
+use Rattle.description.specs.Bytes.{decidingBytes}
 use Rattle.description.specs.declared.workflow.Edge.{Edge}
 use Rattle.description.specs.Format.{Description}
 use Rattle.security.specs.Soundness.{read}
@@ -36,25 +37,25 @@ transfers-room s d e p =
     omega (arith, bytes-length ts, transfers-few 0 p (d .edges), read-wellFormed s d e .limits .edges)
 
 module _ (s : List ℕ) where
-  pub readCall-within : RefusalWithin 12 346 (readCall s)
+  pub readCall-within : RefusalWithin 12 decidingBytes (readCall s)
   unfolding readCall
-  readCall-within = within-andThen 12 346 (read s) (λ d. ok (countsOf d)) (read-within s) (λ d e. tt)
+  readCall-within = within-andThen 12 decidingBytes (read s) (λ d. ok (countsOf d)) (read-within s) (λ d e. tt)
 
-  read-wider : (numbers : ℕ) → 12 ≤ numbers → RefusalWithin numbers 346 (read s)
-  read-wider numbers h = within-more numbers 346 h (omega arith) (read s) (read-within s)
+  read-wider : (numbers : ℕ) → 12 ≤ numbers → RefusalWithin numbers decidingBytes (read s)
+  read-wider numbers h = within-more numbers decidingBytes h (omega arith) (read s) (read-within s)
 
-  pub judgeCall-within : (p : List ℕ) → RefusalWithin 15 346 (judgeCall s p)
+  pub judgeCall-within : (p : List ℕ) → RefusalWithin 15 decidingBytes (judgeCall s p)
   unfolding judgeCall
-  judgeCall-within p = within-andThen 15 346 (read s) (λ d. judge d p) (read-wider 15 (omega arith)) (λ d e. judged-within s d e p)
+  judgeCall-within p = within-andThen 15 decidingBytes (read s) (λ d. judge d p) (read-wider 15 (omega arith)) (λ d e. judged-within s d e p)
 
-  pub transfersCall-within : (p : List ℕ) (n : ℕ) → RefusalWithin 16 346 (transfersCall s p n)
+  pub transfersCall-within : (p : List ℕ) (n : ℕ) → RefusalWithin 16 decidingBytes (transfersCall s p n)
   unfolding transfersCall
   transfersCall-within p n =
-      within-andThen 16 346 (read s) (λ d. andThen (judge d p) (λ secure. fitted n (transfers d p))) (read-wider 16 (omega arith))
-      (λ d e. within-andThen 16 346 (judge d p) (λ secure. fitted n (transfers d p)) (within-more 16 346 (omega arith) (omega arith) (judge d p) (judged-within s d e p)) (λ secure _. short d e))
+      within-andThen 16 decidingBytes (read s) (λ d. andThen (judge d p) (λ secure. fitted n (transfers d p))) (read-wider 16 (omega arith))
+      (λ d e. within-andThen 16 decidingBytes (judge d p) (λ secure. fitted n (transfers d p)) (within-more 16 decidingBytes (omega arith) (omega arith) (judge d p) (judged-within s d e p)) (λ secure _. short d e))
     where
-      short : (d : Description) → read s ≡ ok d → RefusalWithin 16 346 (fitted n (transfers d p))
+      short : (d : Description) → read s ≡ ok d → RefusalWithin 16 decidingBytes (fitted n (transfers d p))
       short d e =
           let ts = transfers d p in
-          within-cond 16 346 (ltb n (length (bytesOf ts))) (refused 16 (length (bytesOf ts))) (ok ts)
+          within-cond 16 decidingBytes (ltb n (length (bytesOf ts))) (refused 16 (length (bytesOf ts))) (ok ts)
           (λ _. (omega arith, omega arith, omega (arith, transfers-room s d e p))) (λ _. tt)

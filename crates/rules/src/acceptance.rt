@@ -1,27 +1,31 @@
 // What Read accepts: a decoded description that keeps rules 2 to 4 and has few enough candidates.
 ghost use mathlib.Core.Path.{_≡_};
-ghost use Rattle.description.specs.Meaning.{describes, decodingOf, outcomeOf};
+ghost use Rattle.description.specs.Meaning.{describes, Cleared};
 ghost use Rattle.security.specs.Soundness.{sound, read};
+ghost use Rattle.rules.specs.Answers.{admissionOf, counted};
+use crate::answers::Admission;
 use description::decode::decode;
-use description::workflow::Decoding;
+use description::words::Words;
+use description::words::clear;
 use description::workflow::Outcome;
 use description::workflow::Refusal;
-use description::workflow::Workflow;
 use security::answers::Found;
 use security::answers::Rule;
 use security::placements::first_breaking;
 use security::soundness::candidate_count;
 use security::soundness::first_breaking_rule2;
 
-fn refused(number: u8, place: usize) -> Outcome
-    ensures { λ r. ⌜ r ≡ Outcome.Refused (record { number = number; place = place }) ⌝ }
+const MOST_CANDIDATES: u64 = 65536;
+
+fn refused(number: u8, place: usize) -> Admission
+    ensures { λ r. ⌜ r ≡ Admission.Refused (record { number = number; place = place }) ⌝ }
 {
-    Outcome::Refused(Refusal { number, place })
+    Admission::Refused(Refusal { number, place })
 }
 
 // Rules 2 to 4 and the limit on candidates, in the order of their numbers.
-fn soundness(w: Workflow) -> Outcome
-    ensures { λ r. ⌜ outcomeOf r (describes w) ≡ sound (describes w) ⌝ }
+fn soundness(w: &Words) -> Admission
+    ensures { λ r. ⌜ admissionOf r (describes (now (w .entry))) ≡ counted (sound (describes (now (w .entry)))) ⌝ }
 {
     let block = first_breaking_rule2(w);
     if let Found::At(b) = block {
@@ -35,24 +39,25 @@ fn soundness(w: Workflow) -> Outcome
     if let Found::At(n) = write {
         return refused(11, n);
     }
-    if 65536 < candidate_count(w) {
+    let candidates = candidate_count(w);
+    if MOST_CANDIDATES < candidates {
         return refused(12, 0);
     }
-    Outcome::Accepted
+    Admission::Accepted(candidates)
 }
 
-// What Read accepts, decoded.
-pub fn accept(description: &[u8]) -> Decoding
-    ensures { λ r. ⌜ decodingOf r ≡ read (now (description .entry)) ⌝ }
+// What Read accepts, decoded into the words; a refusal leaves them cleared.
+pub fn accept(description: &[u8], w: &mut Words) -> Admission
+    ensures { λ r. ⌜ admissionOf r (describes (now (w .exit))) ≡ counted (read (now (description .entry))) ⌝ }
+    ensures { λ _. ⌜ Cleared (read (now (description .entry))) (now (w .exit)) ⌝ }
 {
-    let r = decode(description);
-    let outcome = r.outcome;
-    let w = r.workflow;
-    let Outcome::Accepted = outcome else {
-        return r;
-    };
-    Decoding {
-        outcome: soundness(w),
-        workflow: w,
+    let outcome = decode(description, w);
+    if let Outcome::Refused(r) = outcome {
+        return Admission::Refused(r);
     }
+    let admission = soundness(w);
+    if let Admission::Refused(_) = admission {
+        clear(w);
+    }
+    admission
 }

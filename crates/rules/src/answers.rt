@@ -1,4 +1,4 @@
-// What Read answers.
+// What Read answers, and what it hands on to the calls above it.
 use description::workflow::Refusal;
 
 pub enum Acceptance {
@@ -7,5 +7,11 @@ pub enum Acceptance {
         blocks: usize,
         edges: usize,
     },
+    Refused(Refusal),
+}
+
+// An accepted description comes with the number of its candidates, so that nobody has to count them again.
+pub enum Admission {
+    Accepted(u64),
     Refused(Refusal),
 }

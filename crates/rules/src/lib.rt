@@ -14,9 +14,9 @@ pub mod acceptance;
 pub mod answers;
 
 use answers::Acceptance;
+use answers::Admission;
 use costs::answers::Transferred;
-use description::workflow::Outcome;
-use description::workflow::Refusal;
+use description::words::WORDS;
 use description::workflow::block_count;
 use description::workflow::cloud_count;
 use description::workflow::edge_count;
@@ -26,16 +26,15 @@ use security::answers::Verdict;
 pub fn read(description: &[u8]) -> Acceptance
     ensures { λ r. ⌜ readAnswer r ≡ readCall (now (description .entry)) ⌝ }
 {
-    let a = acceptance::accept(description);
-    let outcome = a.outcome;
-    let w = a.workflow;
-    match outcome {
-        Outcome::Accepted => Acceptance::Accepted {
-            clouds: cloud_count(w),
-            blocks: block_count(w),
-            edges: edge_count(w),
+    let mut w = [0u32; WORDS];
+    let admission = acceptance::accept(description, &mut w);
+    match admission {
+        Admission::Accepted(_) => Acceptance::Accepted {
+            clouds: cloud_count(&w),
+            blocks: block_count(&w),
+            edges: edge_count(&w),
         },
-        Outcome::Refused(r) => Acceptance::Refused(r),
+        Admission::Refused(r) => Acceptance::Refused(r),
     }
 }
 
@@ -43,12 +42,11 @@ pub fn read(description: &[u8]) -> Acceptance
 pub fn judge(description: &[u8], placement: [u8; 16]) -> Verdict
     ensures { λ r. ⌜ judgeAnswer r ≡ judgeCall (now (description .entry)) placement ⌝ }
 {
-    let a = acceptance::accept(description);
-    let outcome = a.outcome;
-    let w = a.workflow;
-    match outcome {
-        Outcome::Accepted => security::placements::verdict(w, placement),
-        Outcome::Refused(r) => Verdict::Refused(r),
+    let mut w = [0u32; WORDS];
+    let admission = acceptance::accept(description, &mut w);
+    match admission {
+        Admission::Accepted(_) => security::placements::verdict(&w, placement),
+        Admission::Refused(r) => Verdict::Refused(r),
     }
 }
 
@@ -57,11 +55,10 @@ pub fn transfers(description: &[u8], placement: [u8; 16], buffer: &mut [u8]) -> 
     ensures { λ r. ⌜ transfersAnswer r ≡ andThen (transfersCall (now (description .entry)) placement (length (now (buffer .entry)))) (λ ts. ok (length ts)) ⌝ }
     ensures { λ r. ⌜ now (buffer .exit) ≡ bufferAfter (transfersCall (now (description .entry)) placement (length (now (buffer .entry)))) (now (buffer .entry)) ⌝ }
 {
-    let a = acceptance::accept(description);
-    let outcome = a.outcome;
-    let w = a.workflow;
-    match outcome {
-        Outcome::Accepted => costs::transfer::written_if_secure(w, placement, buffer),
-        Outcome::Refused(r) => Transferred::Refused(r),
+    let mut w = [0u32; WORDS];
+    let admission = acceptance::accept(description, &mut w);
+    match admission {
+        Admission::Accepted(_) => costs::transfer::written_if_secure(&w, placement, buffer),
+        Admission::Refused(r) => Transferred::Refused(r),
     }
 }

@@ -11,12 +11,12 @@ use Rattle.sequences.specs.Results.{ok, andThen}
 use Rattle.sequences.proofs.Tests.{cond-none}
 use Rattle.sequences.proofs.Results.{ok-inj, andThen-ok, unless-ok}
 use Rattle.description.specs.Format.{Description, decode}
-use Rattle.description.specs.Bytes.{Bytes}
+use Rattle.description.specs.Bytes.{Bytes, decidingBytes}
 use Rattle.description.specs.Invariants.{WellFormed, InRange, Bounded}
 use Rattle.description.proofs.Front.{front-decides}
 use Rattle.description.proofs.Limits.{decoded-wellFormed, decoded-inRange}
 use Rattle.security.specs.Soundness.{breaks2, breaks3, breaks4, count, tooMany, sound, read}
-use Rattle.security.specs.Accepted.{Accepted}
+use Rattle.security.specs.Accepted.{Accepted, Admitted}
 
 -- one refusal after another did not happen
 sound-kept : (s : List ℕ) (e d : Description) → decode s ≡ ok e → sound e ≡ ok d → Accepted s d
@@ -45,7 +45,14 @@ module _ (s : List ℕ) (d : Description) (r : read s ≡ ok d) where
   pub read-bounded : Bytes s → Bounded d
   read-bounded h = record { limits = read-wellFormed .limits; inRange = read-inRange h }
 
--- THE FIRST 346 BYTES DECIDE what Read answers
-pub read-front : (s : List ℕ) (n : ℕ) → 346 ≤ n → read (take n s) ≡ read s
+  -- so a walk may go over it
+  pub read-admitted : Bytes s → Admitted d
+  read-admitted h = record { wellFormed = read-wellFormed; inRange = read-inRange h; few = accepted s d r .few }
+
+pub admitted-bounded : {d : Description} → Admitted d → Bounded d
+admitted-bounded a = record { limits = a .wellFormed .limits; inRange = a .inRange }
+
+-- THE FIRST BYTES DECIDE what Read answers
+pub read-front : (s : List ℕ) (n : ℕ) → decidingBytes ≤ n → read (take n s) ≡ read s
 unfolding read
 read-front s n h = ap (λ r. andThen r sound) (front-decides s n h)

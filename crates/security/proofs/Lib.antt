@@ -3,3 +3,4 @@ pub mod Candidates
 pub mod Deciding
 pub mod Judging
 pub mod Refusals
+pub mod Undeclared

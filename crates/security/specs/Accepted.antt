@@ -4,6 +4,7 @@ use mathlib.Core.Path.{_≡_}
 use mathlib.Core.List.{List}
 use mathlib.Core.Option.{none}
 use Rattle.description.specs.Format.{Description, decode}
+use Rattle.description.specs.Invariants.{WellFormed, InRange}
 use Rattle.security.specs.Soundness.{breaks2, breaks3, breaks4, count}
 use Rattle.sequences.specs.Lists.{first}
 use Rattle.sequences.specs.Results.{ok}
@@ -13,4 +14,11 @@ pub record Accepted (s : List ℕ) (d : Description) : Type 0 where
   pub rule2 : first breaks2 (d .blocks) ≡ none
   pub rule3 : first (breaks3 d) (d .edges) ≡ none
   pub rule4 : first (breaks4 d) (d .edges) ≡ none
+  pub few : count d ≤ 65536
+
+-- What a walk over a description's placements asks of it, read from bytes or not: it is well formed, its numbers are in their ranges, and
+-- it has no more candidates than may be.
+pub record Admitted (d : Description) : Type 0 where
+  pub wellFormed : WellFormed d
+  pub inRange : InRange d
   pub few : count d ≤ 65536

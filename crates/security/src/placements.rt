@@ -16,9 +16,9 @@ use crate::soundness::covers;
 use crate::soundness::may_stand;
 use description::decode::is_write;
 use description::decode::wide;
+use description::words::Words;
 use description::workflow::Edge;
 use description::workflow::Refusal;
-use description::workflow::Workflow;
 use description::workflow::block_at;
 use description::workflow::cloud_at;
 use description::workflow::edge_at;
@@ -42,8 +42,8 @@ pub fn moves(placement: [u8; 16], e: Edge) -> bool
 }
 
 // The edge makes a copy on a cloud below the datum's level.
-fn exposes(w: Workflow, placement: [u8; 16], e: Edge) -> bool
-    ensures { λ r. ⌜ r ≡ exposes (describes w) placement e ⌝ }
+fn exposes(w: &Words, placement: [u8; 16], e: Edge) -> bool
+    ensures { λ r. ⌜ r ≡ exposes (describes (now (w .entry))) placement e ⌝ }
 {
     if !moves(placement, e) {
         return false;
@@ -53,8 +53,8 @@ fn exposes(w: Workflow, placement: [u8; 16], e: Edge) -> bool
     !covers(cloud.level, datum.level)
 }
 
-fn breaks_rule16(w: Workflow, placement: [u8; 16], e: Edge) -> bool
-    ensures { λ r. ⌜ r ≡ breaks16 (describes w) placement e ⌝ }
+fn breaks_rule16(w: &Words, placement: [u8; 16], e: Edge) -> bool
+    ensures { λ r. ⌜ r ≡ breaks16 (describes (now (w .entry))) placement e ⌝ }
 {
     let way = e.way;
     if is_write(way) {
@@ -63,8 +63,8 @@ fn breaks_rule16(w: Workflow, placement: [u8; 16], e: Edge) -> bool
     exposes(w, placement, e)
 }
 
-fn breaks_rule17(w: Workflow, placement: [u8; 16], e: Edge) -> bool
-    ensures { λ r. ⌜ r ≡ breaks17 (describes w) placement e ⌝ }
+fn breaks_rule17(w: &Words, placement: [u8; 16], e: Edge) -> bool
+    ensures { λ r. ⌜ r ≡ breaks17 (describes (now (w .entry))) placement e ⌝ }
 {
     let way = e.way;
     if !is_write(way) {
@@ -73,8 +73,8 @@ fn breaks_rule17(w: Workflow, placement: [u8; 16], e: Edge) -> bool
     exposes(w, placement, e)
 }
 
-fn breaks(w: Workflow, placement: [u8; 16], rule: Rule, e: Edge) -> bool
-    ensures { λ r. ⌜ r ≡ breaksRule rule (describes w) placement e ⌝ }
+fn breaks(w: &Words, placement: [u8; 16], rule: Rule, e: Edge) -> bool
+    ensures { λ r. ⌜ r ≡ breaksRule rule (describes (now (w .entry))) placement e ⌝ }
 {
     match rule {
         Rule::Rule3 => breaks_rule3(w, e),
@@ -85,8 +85,8 @@ fn breaks(w: Workflow, placement: [u8; 16], rule: Rule, e: Edge) -> bool
 }
 
 // The first edge that breaks the rule. Rules 3 and 4 don't look at the placement.
-pub fn first_breaking(w: Workflow, placement: [u8; 16], rule: Rule) -> Found
-    ensures { λ r. ⌜ foundIn r ≡ first (breaksRule rule (describes w) placement) (describes w .edges) ⌝ }
+pub fn first_breaking(w: &Words, placement: [u8; 16], rule: Rule) -> Found
+    ensures { λ r. ⌜ foundIn r ≡ first (breaksRule rule (describes (now (w .entry))) placement) (describes (now (w .entry)) .edges) ⌝ }
 {
     let n = edge_count(w);
     let mut i = 0;
@@ -99,14 +99,14 @@ pub fn first_breaking(w: Workflow, placement: [u8; 16], rule: Rule) -> Found
     Found::Nothing
 }
 
-fn is_bad(w: Workflow, placement: [u8; 16], b: usize) -> bool
-    ensures { λ r. ⌜ r ≡ badPosition (describes w) placement b ⌝ }
+fn is_bad(w: &Words, placement: [u8; 16], b: usize) -> bool
+    ensures { λ r. ⌜ r ≡ badPosition (describes (now (w .entry))) placement b ⌝ }
 {
     !may_stand(w, b, wide(cloud_of(placement, b)))
 }
 
-fn first_bad_position(w: Workflow, placement: [u8; 16]) -> Found
-    ensures { λ r. ⌜ foundIn r ≡ first (badPosition (describes w) placement) positions ⌝ }
+fn first_bad_position(w: &Words, placement: [u8; 16]) -> Found
+    ensures { λ r. ⌜ foundIn r ≡ first (badPosition (describes (now (w .entry))) placement) positions ⌝ }
 {
     let mut b = 0;
     while b < 16 {
@@ -125,8 +125,8 @@ fn unfit(number: u8, place: usize) -> Verdict
 }
 
 // Positions first, then rule 16 and then rule 17.
-pub fn verdict(w: Workflow, placement: [u8; 16]) -> Verdict
-    ensures { λ r. ⌜ judgeAnswer r ≡ judge (describes w) placement ⌝ }
+pub fn verdict(w: &Words, placement: [u8; 16]) -> Verdict
+    ensures { λ r. ⌜ judgeAnswer r ≡ judge (describes (now (w .entry))) placement ⌝ }
 {
     let position = first_bad_position(w, placement);
     if let Found::At(b) = position {

@@ -1,6 +1,6 @@
 // The rules on the workflow itself, where each block may stand, and how many candidates that makes.
 ghost use mathlib.Core.Path.{_≡_};
-ghost use Prim.Native.Nat.{_≤_};
+ghost use Prim.Native.Nat.{_≤_, _<_};
 ghost use lib.ListN.{length};
 ghost use Rattle.sequences.specs.Lists.{first};
 ghost use Rattle.description.specs.Meaning.{describes};
@@ -9,11 +9,11 @@ ghost use Rattle.security.specs.Soundness.{covers, clearanceOf, breaks2,
 use crate::answers::Found;
 use description::decode::is_write;
 use description::decode::wide;
+use description::words::Words;
 use description::workflow::Block;
 use description::workflow::Edge;
 use description::workflow::Kind;
 use description::workflow::Pin;
-use description::workflow::Workflow;
 use description::workflow::block_at;
 use description::workflow::block_count;
 use description::workflow::cloud_at;
@@ -58,8 +58,8 @@ fn breaks_rule2(b: Block) -> bool
     }
 }
 
-pub fn breaks_rule3(w: Workflow, e: Edge) -> bool
-    ensures { λ r. ⌜ r ≡ breaks3 (describes w) e ⌝ }
+pub fn breaks_rule3(w: &Words, e: Edge) -> bool
+    ensures { λ r. ⌜ r ≡ breaks3 (describes (now (w .entry))) e ⌝ }
 {
     let way = e.way;
     if is_write(way) {
@@ -71,8 +71,8 @@ pub fn breaks_rule3(w: Workflow, e: Edge) -> bool
     !covers(clearance_of(k), datum.level)
 }
 
-pub fn breaks_rule4(w: Workflow, e: Edge) -> bool
-    ensures { λ r. ⌜ r ≡ breaks4 (describes w) e ⌝ }
+pub fn breaks_rule4(w: &Words, e: Edge) -> bool
+    ensures { λ r. ⌜ r ≡ breaks4 (describes (now (w .entry))) e ⌝ }
 {
     let way = e.way;
     if !is_write(way) {
@@ -84,8 +84,8 @@ pub fn breaks_rule4(w: Workflow, e: Edge) -> bool
 }
 
 // The lowest block that breaks rule 2.
-pub fn first_breaking_rule2(w: Workflow) -> Found
-    ensures { λ r. ⌜ foundIn r ≡ first breaks2 (describes w .blocks) ⌝ }
+pub fn first_breaking_rule2(w: &Words) -> Found
+    ensures { λ r. ⌜ foundIn r ≡ first breaks2 (describes (now (w .entry)) .blocks) ⌝ }
 {
     let n = block_count(w);
     let mut i = 0;
@@ -108,8 +108,8 @@ fn pin_allows(p: Pin, k: usize) -> bool
 }
 
 // Position b may have cloud k: by rule 7 and the pin, and past the last block it has 0.
-pub fn may_stand(w: Workflow, b: usize, k: usize) -> bool
-    ensures { λ r. ⌜ r ≡ mayStand (describes w) b k ⌝ }
+pub fn may_stand(w: &Words, b: usize, k: usize) -> bool
+    ensures { λ r. ⌜ r ≡ mayStand (describes (now (w .entry))) b k ⌝ }
 {
     if block_count(w) <= b {
         return k == 0;
@@ -126,14 +126,16 @@ pub fn may_stand(w: Workflow, b: usize, k: usize) -> bool
     pin_allows(pin, k)
 }
 
-// How many clouds position b may have.
-fn choice_count(w: Workflow, b: usize) -> u64
-    ensures { λ r. ⌜ r ≡ length (choicesOf (describes w) b) ⌝ }
+// How many clouds block b may stand on.
+fn choice_count(w: &Words, b: usize) -> u64
+    requires { ⌜ b < length (describes (now w) .blocks) ⌝ }
+    ensures { λ r. ⌜ r ≡ length (choicesOf (describes (now (w .entry))) b) ⌝ }
     ensures { λ r. ⌜ r ≤ 8 ⌝ }
 {
+    let clouds = cloud_count(w);
     let mut n: u64 = 0;
     let mut k = 0;
-    while k < 8 {
+    while k < clouds {
         if may_stand(w, b, k) {
             n += 1;
         }
@@ -142,13 +144,14 @@ fn choice_count(w: Workflow, b: usize) -> u64
     n
 }
 
-// How many candidates there are: at most 8 to the 16th power, so the product fits.
-pub fn candidate_count(w: Workflow) -> u64
-    ensures { λ r. ⌜ r ≡ count (describes w) ⌝ }
+// How many candidates there are: at most 8 to the 16th power, so the product fits. A position past the last block has one choice.
+pub fn candidate_count(w: &Words) -> u64
+    ensures { λ r. ⌜ r ≡ count (describes (now (w .entry))) ⌝ }
 {
+    let blocks = block_count(w);
     let mut n: u64 = 1;
     let mut b = 0;
-    while b < 16 {
+    while b < blocks {
         n *= choice_count(w, b);
         b += 1;
     }

@@ -1,14 +1,15 @@
 -- What a loop over a list's elements keeps: from position i on, a search, a count, a product is what it is from the next position on,
 -- with the element at i told apart.
-use mathlib.Core.Path.{_≡_, sym, ap, _∙_}
-use Prim.Native.Nat.{ℕ, suc, _+_, _*_, _≤_, _<_}
+use mathlib.Core.Path.{_≡_, refl, sym, ap, ap₂, _∙_}
+use Prim.Native.Nat.{ℕ, zero, suc, _+_, _*_, _≤_, _<_}
 use native.Mathlib.Numerals.{add-one}
+use native.Mathlib.Omega.{arith}
 use mathlib.Core.Bool.{Bool, true, false}
-use mathlib.Core.List.{List, _∷_, map}
+use mathlib.Core.List.{List, [], _∷_, map}
 use mathlib.Core.Option.{none, some}
 use lib.ListN.{length, getD, drop, drop-of-length-le}
 use lib.Seq.{drop-cons}
-use Rattle.sequences.specs.Lists.{any, keep, firstFrom, product, sum}
+use Rattle.sequences.specs.Lists.{from, below, any, keep, firstFrom, product, sum}
 
 -- the elements from i on, with a head
 module _ {A : Type 0} (l : List A) (z : A) (i : ℕ) (h : i < length l) where
@@ -61,3 +62,24 @@ module _ {A : Type 0} (f : A → ℕ) (l : List A) (z : A) (i : ℕ) (h : i < le
 -- a test that was made of a copy of an element tells of the element
 pub told : {A : Type 0} (t : A → Bool) {x y : A} {r v : Bool} → x ≡ y → r ≡ t x → r ≡ v → t y ≡ v
 told t e f g = sym (ap t e) ∙ sym f ∙ g
+
+-- a loop over numbers may stop at k where those from k on add nothing
+module _ (t : ℕ → Bool) where
+  none-from : (j k n : ℕ) → ((i : ℕ) → j + k ≤ i → t i ≡ false) → keep t (drop k (from j n)) ≡ []
+  none-from j zero zero h = refl
+  none-from j zero (suc n) h = simp (h j (omega arith)) (none-from (suc j) zero n (λ i l. h i (omega arith)))
+  none-from j (suc k) zero h = refl
+  none-from j (suc k) (suc n) h = none-from (suc j) k n (λ i l. h i (omega arith))
+
+  pub keep-stops : (k n : ℕ) → ((i : ℕ) → k ≤ i → t i ≡ false) → length (keep t (drop k (below n))) ≡ 0
+  keep-stops k n h = ap length (none-from 0 k n (λ i l. h i (omega arith)))
+
+module _ (f : ℕ → ℕ) where
+  ones-from : (j k n : ℕ) → ((i : ℕ) → j + k ≤ i → f i ≡ 1) → product (map f (drop k (from j n))) ≡ 1
+  ones-from j zero zero h = refl
+  ones-from j zero (suc n) h = ap₂ _*_ (h j (omega arith)) (ones-from (suc j) zero n (λ i l. h i (omega arith)))
+  ones-from j (suc k) zero h = refl
+  ones-from j (suc k) (suc n) h = ones-from (suc j) k n (λ i l. h i (omega arith))
+
+  pub product-stops : (k n : ℕ) → ((i : ℕ) → k ≤ i → f i ≡ 1) → product (map f (drop k (below n))) ≡ 1
+  product-stops k n h = ones-from 0 k n (λ i l. h i (omega arith))

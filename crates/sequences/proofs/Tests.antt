@@ -1,6 +1,6 @@
 -- Tests in proofs: a test passes or fails; what holds of both branches holds of a choice; what `&&` and `||` that
 -- passed or failed say of their parts.
-use Prim.Native.Nat.{ℕ, zero, suc, _<_}
+use Prim.Native.Nat.{ℕ, zero, suc, _≤_, _<_}
 use native.Mathlib.Nat.{le-of-suc-le-suc, not-suc-le-zero}
 use native.Mathlib.Omega.{arith}
 use native.Mathlib.Decide.{ℕ-discrete}
@@ -10,8 +10,8 @@ use mathlib.Core.Bool.{Bool, true, false, cond, _&&_, _||_, true≢false, and-eq
 use mathlib.Core.Option.{Option, none, some}
 use mathlib.Core.List.{List, [], _∷_}
 use lib.ListN.{length, getD}
-use lib.Dec.{eqb}
-use borrow.Author.Tests.{eq-eqb, ne-eqb}
+use lib.Dec.{leb, eqb}
+use borrow.Author.Tests.{eq-eqb, ne-eqb, leb-true, leb-false}
 use Rattle.sequences.specs.Lists.{any}
 
 -- what holds of each branch, where the test sends there, holds of the choice
@@ -64,3 +64,19 @@ eqb-turn m n = elim (ℕ-discrete m n) [
   | yes e ↦ eq-eqb m n e ∙ sym (eq-eqb n m (sym e))
   | no f ↦ ne-eqb m n f ∙ sym (ne-eqb n m (λ e. f (sym e)))
 ]
+
+-- What room of a given size lacks for n: 0 where n fits, otherwise n. So nothing lacks, and n fits; or all of n does.
+module _ (n room w : ℕ) (e : w ≡ cond (leb n room) 0 n) where
+  pub none-missing : w ≡ 0 → n ≤ room
+  none-missing z = go (leb n room) refl e
+    where
+      go : (b : Bool) → leb n room ≡ b → w ≡ cond b 0 n → n ≤ room
+      go true t f = leb-true n room t
+      go false t f = omega arith
+
+  pub some-missing : (w ≡ 0 → ⊥) → (room < n) × (w ≡ n)
+  some-missing z = go (leb n room) refl e
+    where
+      go : (b : Bool) → leb n room ≡ b → w ≡ cond b 0 n → (room < n) × (w ≡ n)
+      go true t f = absurd (z f)
+      go false t f = (leb-false n room t, f)

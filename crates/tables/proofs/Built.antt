@@ -10,7 +10,7 @@ use lib.Dec.{ltb, lit<}
 use lib.ListN.{length, getD, length-map}
 use borrow.Author.Tests.{lt-ltb, le-ltb, ltb-true, ltb-false}
 use Rattle.description.specs.declared.workflow.Edge.{Edge}
-use Rattle.description.specs.Format.{Description, noEdge, edge, block, isDatum, namesBlock}
+use Rattle.description.specs.Format.{Description, noEdge, edge, block}
 use Rattle.description.specs.Invariants.{Limits, WellFormed, InRange}
 use Rattle.security.specs.Soundness.{mayStand, candidates}
 use Rattle.security.specs.Placements.{serviceCloud, datumCloud}
@@ -22,13 +22,15 @@ use Rattle.sequences.proofs.Counting.{length-below}
 use Rattle.sequences.proofs.Members.{keep-members, below-members, getD-map}
 use Rattle.sequences.proofs.Numbers.{kept-most}
 use Rattle.sequences.proofs.Positions.{everywhere}
-use Rattle.sequences.proofs.Tests.{both-pass, cond-ind}
+use Rattle.sequences.proofs.Tests.{cond-ind}
 use Rattle.visiting.specs.Tables.{tables, allowed, bit, placements, ownTerm, edgeTerm as termIn, start, weight, Ready}
-use Rattle.tables.specs.Building.{maskOf, masksOf, ownOf, later, other, lateIn, edgesBefore, startsOf, orderOf, edgeIn, endOf, endsOf, termOf, hasClouds, termAt, termsOf, pairsOf, tablesOf, padded, joined, group}
+use Rattle.tables.specs.Building.{maskOf, masksOf, ownOf, later, other, lateIn, edgesBefore, startsOf, orderOf, edgeIn, endOf, endsOf}
+use Rattle.tables.specs.Building.{termOf, hasClouds, termAt, termsOf, pairsOf, tablesOf, padded, joined, group}
 use Rattle.tables.proofs.Bits.{bit-bits}
-use Rattle.tables.proofs.Filling.{getD-table, table-all}
+use Rattle.tables.proofs.Filling.{getD-table, getD-tableTo, table-all}
 use Rattle.tables.proofs.Groups.{keep-all, keep-cut, from-split, map-append, joined-grows, joined-count, regroup}
 use Rattle.tables.proofs.Indexing.{map-below, map-constant, index-map, getD-padded, sequences-padded}
+use Rattle.tables.proofs.Named.{service-block, datum-block}
 use Rattle.tables.proofs.Ordering.{order-before, order-at}
 use Rattle.tables.proofs.Paired.{paired}
 use Rattle.tables.proofs.Small.{block-small, term-small}
@@ -37,24 +39,26 @@ use Rattle.tables.proofs.Small.{block-small, term-small}
 
 module _ (d : Description) where
   -- where the edges of a later end begin
-  start-is : (k : ℕ) → k < 17 → start (tablesOf d) k ≡ edgesBefore d k
+  start-is : (k : ℕ) → k ≤ length (d .blocks) → k < 17 → start (tablesOf d) k ≡ edgesBefore d k
   unfolding start tablesOf startsOf
-  start-is k h = getD-table 17 (edgesBefore d) k h
+  start-is k h l = getD-tableTo 17 (length (d .blocks) + 1) (edgesBefore d) k l (omega arith)
 
   -- the two ends of the edge at a place
-  first-end : (i : ℕ) → i < 32 → getD (tablesOf d .ends) (2 * i) 0 ≡ later (edgeIn d i)
+  first-end : (i : ℕ) → i < length (d .edges) → i < 32 → getD (tablesOf d .ends) (2 * i) 0 ≡ later (edgeIn d i)
   unfolding tablesOf endsOf
-  first-end i h =
+  first-end i l h =
       let q : 2 * i / 2 ≡ i = omega arith in
       let r : 2 * i % 2 ≡ 0 = omega arith in
-      getD-table 64 (λ j. endOf (edgeIn d (j / 2)) (j % 2)) (2 * i) (omega arith) ∙ ap₂ (λ (a b : ℕ). endOf (edgeIn d a) b) q r
+      getD-tableTo 64 (length (d .edges) * 2) (λ j. endOf (edgeIn d (j / 2)) (j % 2)) (2 * i) (omega arith) (omega arith) ∙
+      ap₂ (λ (a b : ℕ). endOf (edgeIn d a) b) q r
 
-  second-end : (i : ℕ) → i < 32 → getD (tablesOf d .ends) (2 * i + 1) 0 ≡ other (edgeIn d i)
+  second-end : (i : ℕ) → i < length (d .edges) → i < 32 → getD (tablesOf d .ends) (2 * i + 1) 0 ≡ other (edgeIn d i)
   unfolding tablesOf endsOf
-  second-end i h =
+  second-end i l h =
       let q : (2 * i + 1) / 2 ≡ i = omega arith in
       let r : (2 * i + 1) % 2 ≡ 1 = omega arith in
-      getD-table 64 (λ j. endOf (edgeIn d (j / 2)) (j % 2)) (2 * i + 1) (omega arith) ∙ ap₂ (λ (a b : ℕ). endOf (edgeIn d a) b) q r
+      getD-tableTo 64 (length (d .edges) * 2) (λ j. endOf (edgeIn d (j / 2)) (j % 2)) (2 * i + 1) (omega arith) (omega arith) ∙
+      ap₂ (λ (a b : ℕ). endOf (edgeIn d a) b) q r
 
   -- what a block adds, and what the edge at a place adds
   own-is : (q : List ℕ) (b : ℕ) → b < 16 → getD q b 0 < 8 → ownTerm (tablesOf d) q b ≡ blockTerm d b (getD q b 0)
@@ -91,7 +95,7 @@ module _ (d : Description) where
   unfolding termIn
   term-is few q there i h =
       let i32 : i < 32 = omega (arith, few .edges) in
-      rw (first-end i i32, second-end i i32)
+      rw (first-end i h i32, second-end i h i32)
       (entry-is few i (getD q (later (edgeIn d i)) 0) (getD q (other (edgeIn d i)) 0) h (there _) (there _) ∙ turned (edgeIn d i) q)
 
 -- tables that are each those of the description
@@ -112,9 +116,8 @@ module _ (d : Description) (wf : WellFormed d) where
   -- every later end is a block
   late-low : (n : ℕ) → lateIn d n < length (d .blocks)
   late-low = everywhere (λ (e : Edge). later e < length (d .blocks)) noEdge (d .edges) (wf .someBlock) (λ i h.
-      let s = ltb-true (edge d i .service) (length (d .blocks)) (both-pass (namesBlock d (edge d i .service)) (not (isDatum (block d (edge d i .service) .kind))) .0 (wf .service i h) .0) in
-      let t = ltb-true (edge d i .datum) (length (d .blocks)) (both-pass (namesBlock d (edge d i .datum)) (isDatum (block d (edge d i .datum) .kind)) .0 (wf .datum i h) .0) in
-      cond-ind (λ (x : ℕ). x < length (d .blocks)) (ltb (edge d i .service) (edge d i .datum)) (edge d i .datum) (edge d i .service) (λ _. t) (λ _. s))
+      cond-ind (λ (x : ℕ). x < length (d .blocks)) (ltb (edge d i .service) (edge d i .datum)) (edge d i .datum) (edge d i .service)
+      (λ _. datum-block d wf i h) (λ _. service-block d wf i h))
 
   -- all edges have later ends below the number of blocks, and at most 32 have them below any number
   all-before : (k : ℕ) → length (d .blocks) ≤ k → edgesBefore d k ≡ length (d .edges)
@@ -122,34 +125,41 @@ module _ (d : Description) (wf : WellFormed d) where
       ap length (keep-all (λ n. ltb (lateIn d n) k) (λ n. lt-ltb (lateIn d n) k (omega (arith, late-low n))) (below (length (d .edges)))) ∙
       length-below (length (d .edges))
 
-  few-before : (k : ℕ) → edgesBefore d k ≤ 32
-  few-before k = omega (arith, kept-most (λ n. ltb (lateIn d n) k) (below (length (d .edges))), length-below (length (d .edges)), wf .limits .edges)
+  few-before : (k : ℕ) → edgesBefore d k ≤ length (d .edges)
+  few-before k = omega (arith, kept-most (λ n. ltb (lateIn d n) k) (below (length (d .edges))), length-below (length (d .edges)))
 
   earlier-ends : (k i : ℕ) → k ≤ length (d .blocks) → i < start (tablesOf d) k
       → (getD (tablesOf d .ends) (2 * i) 0 < k) × (getD (tablesOf d .ends) (2 * i + 1) 0 ≤ getD (tablesOf d .ends) (2 * i) 0)
   earlier-ends k i l h =
-      let k16 : k ≤ 16 = omega (arith, wf .limits .blocks) in
-      let j : i < edgesBefore d k = omega (arith, start-is d k (omega arith)) in
-      let i32 : i < 32 = omega (arith, few-before k) in
-      (rw (first-end d i i32) (order-before d k i k16 j), rw (first-end d i i32, second-end d i i32) (other-least (edgeIn d i)))
+      let j : i < edgesBefore d k = omega (arith, start-is d k l (omega (arith, wf .limits .blocks))) in
+      let there : i < length (d .edges) = omega (arith, few-before k) in
+      let i32 : i < 32 = omega (arith, wf .limits .edges) in
+      (rw (first-end d i there i32) (order-before d k i l j), rw (first-end d i there i32, second-end d i there i32) (other-least (edgeIn d i)))
 
   later-ends : (k i : ℕ) → k < length (d .blocks) → start (tablesOf d) k ≤ i → i < start (tablesOf d) (k + 1) → getD (tablesOf d .ends) (2 * i) 0 ≡ k
   later-ends k i l g h =
       let k16 : k < 16 = omega (arith, wf .limits .blocks) in
-      let a : edgesBefore d k ≤ i = omega (arith, start-is d k (omega arith)) in
-      let b : i < edgesBefore d (k + 1) = omega (arith, start-is d (k + 1) (omega arith)) in
-      let i32 : i < 32 = omega (arith, few-before (k + 1)) in
-      first-end d i i32 ∙ order-at d k i k16 a b
+      let a : edgesBefore d k ≤ i = omega (arith, start-is d k (omega arith) (omega arith)) in
+      let b : i < edgesBefore d (k + 1) = omega (arith, start-is d (k + 1) (omega arith) (omega arith)) in
+      let there : i < length (d .edges) = omega (arith, few-before (k + 1)) in
+      first-end d i there (omega (arith, wf .limits .edges)) ∙ order-at d k i l a b
 
   rising-starts : (k : ℕ) → k < length (d .blocks) → start (tablesOf d) k ≤ start (tablesOf d) (k + 1)
   rising-starts k l =
       let k16 : k < 16 = omega (arith, wf .limits .blocks) in
       let m = length (d .edges) in
-      omega (arith, start-is d k (omega arith), start-is d (k + 1) (omega arith), joined-count (lateIn d) m k, joined-count (lateIn d) m (k + 1), joined-grows (group (lateIn d) m) k 1)
+      omega (
+        arith,
+        start-is d k (omega arith) (omega arith),
+        start-is d (k + 1) (omega arith) (omega arith),
+        joined-count (lateIn d) m k,
+        joined-count (lateIn d) m (k + 1),
+        joined-grows (group (lateIn d) m) k 1,
+      )
 
   no-start : start (tablesOf d) 0 ≡ 0
   unfolding joined
-  no-start = start-is d 0 (omega arith) ∙ sym (joined-count (lateIn d) (length (d .edges)) 0)
+  no-start = start-is d 0 (omega arith) (omega arith) ∙ sym (joined-count (lateIn d) (length (d .edges)) 0)
 
   -- ---- what a placement weighs
 
@@ -158,10 +168,11 @@ module _ (d : Description) (wf : WellFormed d) where
   unfolding orderOf
   edges-sum f =
       let m = length (d .edges) in
-      let count : m ≡ length (orderOf d) = sym (all-before 16 (wf .limits .blocks)) ∙ sym (joined-count (lateIn d) m 16) in
+      let n = length (d .blocks) in
+      let count : m ≡ length (orderOf d) = sym (all-before n (omega arith)) ∙ sym (joined-count (lateIn d) m n) in
       ap (λ (n : ℕ). sum (map (λ i. f (edgeIn d i)) (below n))) count ∙
       ap sum (index-map (λ n. f (edge d n)) (orderOf d) 0) ∙
-      regroup (lateIn d) (λ n. f (edge d n)) m 16 (λ e. omega (arith, late-low e, wf .limits .blocks)) ∙
+      regroup (lateIn d) (λ n. f (edge d n)) m n late-low ∙
       ap sum (index-map f (d .edges) noEdge)
 
   module _ (q : List ℕ) (there : (b : ℕ) → getD q b 0 < length (d .clouds)) where
@@ -183,7 +194,7 @@ module _ (d : Description) (wf : WellFormed d) where
     edge-sum : sum (map (termIn (tablesOf d) q) (below (start (tablesOf d) (length (d .blocks))))) ≡ sum (map added (d .edges))
     edge-sum =
         let all : start (tablesOf d) (length (d .blocks)) ≡ length (d .edges) =
-        start-is d (length (d .blocks)) (omega (arith, wf .limits .blocks)) ∙ all-before (length (d .blocks)) (omega arith) in
+        start-is d (length (d .blocks)) (omega arith) (omega (arith, wf .limits .blocks)) ∙ all-before (length (d .blocks)) (omega arith) in
         ap (λ (n : ℕ). sum (map (termIn (tablesOf d) q) (below n))) all ∙
         ap sum (map-below (termIn (tablesOf d) q) (λ i. added (edgeIn d i)) (length (d .edges)) at-place) ∙ edges-sum added
 
@@ -266,7 +277,7 @@ module _ (d : Description) (wf : WellFormed d) where
       later = later-ends;
       rising = rising-starts;
       none = no-start;
-      all = λ k l. omega (arith, start-is d k (omega (arith, wf .limits .blocks)), few-before k);
+      all = λ k l. omega (arith, start-is d k l (omega (arith, wf .limits .blocks)), few-before k, wf .limits .edges);
       ownSmall = own-low;
       termsSmall = terms-low;
       paired = paired d wf;

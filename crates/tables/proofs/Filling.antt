@@ -1,15 +1,18 @@
 -- Arrays that a loop fills from the front: entry by entry, or with the elements of a list that grows.
-use Prim.Native.Nat.{ℕ, _+_, _≤_, _<_}
+use Prim.Native.Nat.{ℕ, _+_, _-_, _*_, _%_, _≤_, _<_}
 use native.Mathlib.Decide.{decLt, ℕ-discrete}
 use native.Mathlib.Omega.{arith}
 use mathlib.Core.Path.{_≡_, refl, sym, ap, _∙_}
+use mathlib.Core.Bool.{cond}
 use mathlib.Core.List.{List, [], _∷_, _++_}
+use lib.Dec.{ltb}
 use lib.ListN.{length, getD, set, replicate, length-set, length-map, length-replicate, length-append, List·getD-append, List·getD-eq-default}
 use lib.Seq.{getD-append-seam, getD-set-same, getD-set-other, ext-getD}
 use Rattle.sequences.specs.Lists.{below}
 use Rattle.sequences.proofs.Counting.{length-below, getD-below}
 use Rattle.sequences.proofs.Members.{getD-map}
-use Rattle.tables.specs.Building.{table}
+use Rattle.tables.specs.Building.{table, upTo, tableTo, Listed, sidesTogether, RowFilled}
+use borrow.Author.Tests.{lt-ltb, le-ltb}
 use Rattle.tables.proofs.Indexing.{map-below, zeros-at}
 
 -- a table's length, and its entries
@@ -78,15 +81,56 @@ module _ {n : ℕ} {f : ℕ → ℕ} where
   pub fill-stops : {a : List ℕ} {i : ℕ} → Filled n f a i → ((j : ℕ) → i ≤ j → j < n → f j ≡ 0) → a ≡ table n f
   fill-stops k z = fill-ends (fill-skip k (k .upto) (omega arith) z) (omega arith)
 
--- an array of n entries has a list in front, of so many elements, and 0 behind it
-pub record Listed (n : ℕ) (l a : List ℕ) (count : ℕ) : Type 0 where
-  pub size : length a ≡ n
-  pub ends : count ≡ length l
-  pub same : (j : ℕ) → getD a j 0 ≡ getD l j 0
+-- the same as far as m: an entry, one more, and all
+pub getD-tableTo : (n m : ℕ) (f : ℕ → ℕ) (i : ℕ) → i < n → i < m → getD (tableTo n m f) i 0 ≡ f i
+getD-tableTo n m f i h l = getD-table n (upTo m f) i h ∙ simp (lt-ltb i m l)
+
+module _ {n : ℕ} (m : ℕ) (f : ℕ → ℕ) {a : List ℕ} {i : ℕ} where
+  pub fill-next : {v : ℕ} → Filled n (upTo m f) a i → i < n → i < m → v ≡ f i → Filled n (upTo m f) (set a i v) (i + 1)
+  fill-next k h l e = fill-more k h (e ∙ sym (simp (lt-ltb i m l)))
+
+  pub fill-last : Filled n (upTo m f) a i → m ≤ i → a ≡ tableTo n m f
+  fill-last k h = fill-stops k (λ j l b. simp (le-ltb j m (omega arith)))
+
+-- a row of eight whose first m are stored, and the others 0
+pub fill-row : {n : ℕ} {f : ℕ → ℕ} {sides a b : List ℕ} {m r : ℕ} → Filled n f a (r * 8) → RowFilled sides m r a b → r * 8 + 8 ≤ n
+    → ((y : ℕ) → y < m → sidesTogether sides (r % 8) y ≡ f (r * 8 + y)) → ((j : ℕ) → r * 8 + m ≤ j → j < r * 8 + 8 → f j ≡ 0) → m ≤ 8
+    → Filled n f b ((r + 1) * 8)
+fill-row {f = f} {b = b} {m = m} {r = r} k row h same none few = record {
+  size = row .size ∙ k .size;
+  upto = omega arith;
+  done = λ j l. elim (decLt j (r * 8)) [
+    | yes p ↦ row .others j (λ a b. omega arith) ∙ k .done j p
+    | no p ↦ inside j (omega arith) (omega arith)
+  ];
+  left = λ j l. row .others j (λ a b. omega arith) ∙ k .left j (omega arith);
+}
+  where
+    inside : (j : ℕ) → r * 8 ≤ j → j < r * 8 + 8 → getD b j 0 ≡ f j
+    inside j l u = elim (decLt j (r * 8 + m)) [
+      | yes p ↦
+          let e : j ≡ r * 8 + (j - r * 8) = omega arith in
+          rw e (row .row (j - r * 8) (omega arith) ∙ same (j - r * 8) (omega arith))
+      | no p ↦ row .others j (λ a b. p b) ∙ k .left j l ∙ sym (none j (omega arith) u)
+    ]
+
+-- two functions that agree as far as m
+pub tableTo-same : (n m k : ℕ) (f g : ℕ → ℕ) → m ≡ k → ((i : ℕ) → i < m → f i ≡ g i) → tableTo n m f ≡ tableTo n k g
+tableTo-same n m k f g e h =
+    table-same n (upTo m f) (upTo m g) (λ i _. elim (decLt i m) [
+      | yes l ↦ ap (λ (v : ℕ). cond (ltb i m) v 0) (h i l)
+      | no l ↦ simp (le-ltb i m (omega arith))
+    ]) ∙ ap (λ (j : ℕ). tableTo n j g) e
+
+-- an array that is lent full of zeros
+pub fill-lent : {n : ℕ} {f : ℕ → ℕ} {a : List ℕ} → a ≡ replicate n 0 → Filled n f a 0
+fill-lent e = rw e fill-begins
+
+-- an array with a list in front
 
 module _ {n : ℕ} where
-  pub list-begins : Listed n [] (replicate n 0) 0
-  list-begins = record { size = length-replicate n 0; ends = refl; same = zeros-at n }
+  pub list-lent : {a : List ℕ} → a ≡ replicate n 0 → Listed n [] a 0
+  list-lent e = rw e (record { size = length-replicate n 0; ends = refl; same = zeros-at n })
 
   module _ {l a : List ℕ} {count : ℕ} where
     -- one more element

@@ -4,8 +4,9 @@ pub mod EdgeSides
 pub mod Filling
 pub mod Groups
 pub mod Indexing
+pub mod Named
+pub mod Noting
 pub mod Ordering
 pub mod Paired
 pub mod RowTest
-pub mod Scanning
 pub mod Small

@@ -7,18 +7,19 @@ use mathlib.Core.Bool.{Bool, true, false, not, _||_, cond}
 use mathlib.Core.List.{List, [], _∷_}
 use lib.Dec.{eqb}
 use lib.ListN.{length, getD}
-use borrow.Author.Tests.{ltb-true, eq-eqb, ne-eqb}
+use borrow.Author.Tests.{eq-eqb, ne-eqb}
 use Rattle.description.specs.declared.workflow.Edge.{Edge}
 use Rattle.description.specs.declared.workflow.Way.{Way}
 use Rattle.description.specs.declared.workflow.Way.the-variants.{Reads, Writes}
-use Rattle.description.specs.Format.{Description, noEdge, edge, block, isDatum, namesBlock}
+use Rattle.description.specs.Format.{Description, noEdge, edge}
 use Rattle.description.specs.Invariants.{WellFormed}
 use Rattle.rules.specs.Options.{writersOf, readersOf}
 use Rattle.sequences.specs.Lists.{keep}
-use Rattle.sequences.proofs.Tests.{both-pass, cond-ind}
+use Rattle.sequences.proofs.Tests.{cond-ind}
 use Rattle.visiting.specs.Tables.{Paired}
 use Rattle.tables.specs.Building.{isOf, onlyOf, only, ofPair, pairAt, pairsOf, tablesOf}
-use Rattle.tables.proofs.Filling.{getD-table}
+use Rattle.tables.proofs.Filling.{getD-tableTo}
+use Rattle.tables.proofs.Named.{service-block}
 
 -- P holds of each element
 abbrev Every : {A : Type 0} → (A → Type 0) → List A → Type 0
@@ -86,36 +87,42 @@ either (e ∷ []) (f ∷ []) h = absurd (h e f refl refl)
 
 module _ (d : Description) (wf : WellFormed d) where
   services-low : Every (λ (e : Edge). e .service < length (d .blocks)) (d .edges)
-  services-low = every-at (λ (e : Edge). e .service < length (d .blocks)) noEdge (d .edges) (λ i h.
-      ltb-true (edge d i .service) (length (d .blocks)) (both-pass (namesBlock d (edge d i .service)) (not (isDatum (block d (edge d i .service) .kind))) .0 (wf .service i h) .0))
+  services-low = every-at (λ (e : Edge). e .service < length (d .blocks)) noEdge (d .edges) (service-block d wf)
 
   low : (way : Way) (m : ℕ) → (only d way m ≡ 255) ⊎ (only d way m < length (d .blocks))
-  low way m = only-low (length (d .blocks)) (keep (isOf way m) (d .edges)) (every-kept (λ (e : Edge). e .service < length (d .blocks)) (isOf way m) (d .edges) services-low)
+  low way m =
+      only-low (length (d .blocks)) (keep (isOf way m) (d .edges))
+      (every-kept (λ (e : Edge). e .service < length (d .blocks)) (isOf way m) (d .edges) services-low)
 
   -- the entries of datum m
-  pub first-of-pair : (m : ℕ) → m < 16 → getD (tablesOf d .pairs) (2 * m) 0 ≡ ofPair (only d Writes m) (only d Reads m) 0
+  pub first-of-pair : (m : ℕ) → m < length (d .blocks) → getD (tablesOf d .pairs) (2 * m) 0 ≡ ofPair (only d Writes m) (only d Reads m) 0
   unfolding tablesOf pairsOf
   first-of-pair m h =
       let q : 2 * m / 2 ≡ m = omega arith in
       let r : 2 * m % 2 ≡ 0 = omega arith in
-      getD-table 32 (pairAt d) (2 * m) (omega arith) ∙ ap₂ (λ (a b : ℕ). ofPair (only d Writes a) (only d Reads a) b) q r
+      getD-tableTo 32 (2 * length (d .blocks)) (pairAt d) (2 * m) (omega (arith, wf .limits .blocks)) (omega arith) ∙
+      ap₂ (λ (a b : ℕ). ofPair (only d Writes a) (only d Reads a) b) q r
 
-  pub second-of-pair : (m : ℕ) → m < 16 → getD (tablesOf d .pairs) (2 * m + 1) 0 ≡ ofPair (only d Writes m) (only d Reads m) 1
+  pub second-of-pair : (m : ℕ) → m < length (d .blocks) → getD (tablesOf d .pairs) (2 * m + 1) 0 ≡ ofPair (only d Writes m) (only d Reads m) 1
   unfolding tablesOf pairsOf
   second-of-pair m h =
       let q : (2 * m + 1) / 2 ≡ m = omega arith in
       let r : (2 * m + 1) % 2 ≡ 1 = omega arith in
-      getD-table 32 (pairAt d) (2 * m + 1) (omega arith) ∙ ap₂ (λ (a b : ℕ). ofPair (only d Writes a) (only d Reads a) b) q r
+      getD-tableTo 32 (2 * length (d .blocks)) (pairAt d) (2 * m + 1) (omega (arith, wf .limits .blocks)) (omega arith) ∙
+      ap₂ (λ (a b : ℕ). ofPair (only d Writes a) (only d Reads a) b) q r
 
-  -- a service of an edge is not 255
-  service-low : (way : Way) (m : ℕ) (e : Edge) → keep (isOf way m) (d .edges) ≡ e ∷ [] → e .service ≡ 255 → ⊥
-  service-low way m e k h =
+  -- the service of an only edge is small
+  pub service-few : (way : Way) (m : ℕ) (e : Edge) → keep (isOf way m) (d .edges) ≡ e ∷ [] → e .service < 254
+  service-few way m e k =
       let p = every-kept (λ (f : Edge). f .service < length (d .blocks)) (isOf way m) (d .edges) services-low in
       let l : e .service < length (d .blocks) = (rw k at p) .0 in
       omega (arith, wf .limits .blocks)
 
+  service-low : (way : Way) (m : ℕ) (e : Edge) → keep (isOf way m) (d .edges) ≡ e ∷ [] → e .service ≡ 255 → ⊥
+  service-low way m e k h = let few = service-few way m e k in omega arith
+
   -- The entries of datum m: the services of its writer and of its reader, where it has one of each; else 255.
-  pub pair-is : (m : ℕ) → m < 16 → (e f : Edge) → writersOf d m ≡ e ∷ [] → readersOf d m ≡ f ∷ []
+  pub pair-is : (m : ℕ) → m < length (d .blocks) → (e f : Edge) → writersOf d m ≡ e ∷ [] → readersOf d m ≡ f ∷ []
       → (getD (tablesOf d .pairs) (2 * m) 0 ≡ e .service) × (getD (tablesOf d .pairs) (2 * m + 1) 0 ≡ f .service)
   pair-is m l e f writer reader =
       let a : only d Writes m ≡ e .service = ap onlyOf writer in
@@ -126,7 +133,7 @@ module _ (d : Description) (wf : WellFormed d) where
         second-of-pair m l ∙ pair-second (only d Writes m) (only d Reads m) low-a low-b ∙ b,
       )
 
-  pub no-pair : (m : ℕ) → m < 16 → ((e f : Edge) → writersOf d m ≡ e ∷ [] → readersOf d m ≡ f ∷ [] → ⊥)
+  pub no-pair : (m : ℕ) → m < length (d .blocks) → ((e f : Edge) → writersOf d m ≡ e ∷ [] → readersOf d m ≡ f ∷ [] → ⊥)
       → (getD (tablesOf d .pairs) (2 * m) 0 ≡ 255) × (getD (tablesOf d .pairs) (2 * m + 1) 0 ≡ 255)
   no-pair m l h =
       let one = either (writersOf d m) (readersOf d m) h in (
@@ -138,7 +145,6 @@ module _ (d : Description) (wf : WellFormed d) where
   pub paired : Paired (tablesOf d) (length (d .blocks))
   paired = record {
     pairsSmall = λ m l h.
-        let m16 : m < 16 = omega (arith, wf .limits .blocks) in
-        rw (first-of-pair m m16, second-of-pair m m16)
-        (both-low (length (d .blocks)) (only d Writes m) (only d Reads m) (low Writes m) (low Reads m) (rw (first-of-pair m m16) at h));
+        rw (first-of-pair m l, second-of-pair m l)
+        (both-low (length (d .blocks)) (only d Writes m) (only d Reads m) (low Writes m) (low Reads m) (rw (first-of-pair m l) at h));
   }

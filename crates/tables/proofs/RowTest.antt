@@ -1,19 +1,18 @@
 -- The walk's row test over the tables of a description is the rules' test by storage.
-use Prim.Native.Nat.{ℕ, zero, suc, _+_, _-_, _*_, _≤_, _<_}
+use Prim.Native.Nat.{ℕ, _+_, _-_, _*_, _/_, _%_, _<_}
 use native.Mathlib.Nat.{add-zero}
 use native.Mathlib.Omega.{arith}
-use mathlib.Core.Path.{_≡_, refl, sym, ap, ap₂, subst, _∙_}
+use mathlib.Core.Path.{_≡_, refl, sym, ap, ap₂, _∙_}
 use mathlib.Core.Bool.{Bool, true, false, not, _&&_, _||_, cond, or-true, true≢false}
-use mathlib.Core.List.{List, [], _∷_, _++_, List·Memᴰ, List·Memᴰ·head, List·Memᴰ·tail}
+use mathlib.Core.List.{List, [], _∷_, List·Memᴰ, List·Memᴰ·head, List·Memᴰ·tail}
 use mathlib.Core.Option.{Option, none, some}
 use lib.Dec.{ltb, eqb}
-use lib.ListN.{length, getD, replicate}
-use borrow.Author.Tests.{lt-ltb, le-ltb, ne-eqb, eq-eqb}
+use lib.ListN.{length, getD}
+use borrow.Author.Tests.{lt-ltb, ne-eqb}
 use Rattle.description.specs.declared.workflow.Edge.{Edge}
-use Rattle.description.specs.declared.workflow.Way.the-variants.{Reads, Writes}
 use Rattle.description.specs.declared.workflow.Kind.{Kind}
 use Rattle.description.specs.declared.workflow.Kind.the-variants.{Datum, Service}
-use Rattle.description.specs.Format.{Description, block, cloud, isDatum, namesService}
+use Rattle.description.specs.Format.{Description, block, cloud, isDatum}
 use Rattle.description.specs.Invariants.{WellFormed}
 use Rattle.security.specs.Soundness.{mayStand}
 use Rattle.rules.specs.Options.{writersOf, readersOf}
@@ -29,7 +28,10 @@ use Rattle.visiting.specs.Tables.{movesTo as movesBy}
 use Rattle.visiting.specs.Tables.{cheaperOn as cheaperBy}
 use Rattle.visiting.specs.Tables.{stands as standsBy}
 use Rattle.visiting.specs.Tables.{ownTerm}
-use Rattle.tables.specs.Building.{onlyOf, ofPair, padded}
+use Rattle.tables.specs.Building.{onlyOf, ofPair, ownOf, tablesOf, padded}
+use Rattle.tables.proofs.Built.{allowed-is}
+use Rattle.tables.proofs.Filling.{getD-table}
+use Rattle.tables.proofs.Paired.{first-of-pair, second-of-pair}
 use Rattle.tables.proofs.Indexing.{getD-padded}
 use Rattle.sequences.specs.Lists.{any, keep, below, before}
 use Rattle.sequences.proofs.Members.{keep-members, below-members}
@@ -92,8 +94,21 @@ any-agree f g (x ∷ l) h = ap₂ _||_ (h x (List·Memᴰ·head refl)) (any-agre
 pub record RowTables (d : Description) (t : Tables) : Type 0 where
   pub own : (b k : ℕ) → b < 16 → k < 8 → getD (t .own) (b * 8 + k) 0 ≡ blockTerm d b k
   pub allows : (b k : ℕ) → b < length (d .blocks) → k < 8 → allowed t b k ≡ mayStand d b k
-  pub first : (m : ℕ) → m < 16 → getD (t .pairs) (2 * m) 0 ≡ ofPair (onlyOf (writersOf d m)) (onlyOf (readersOf d m)) 0
-  pub second : (m : ℕ) → m < 16 → getD (t .pairs) (2 * m + 1) 0 ≡ ofPair (onlyOf (writersOf d m)) (onlyOf (readersOf d m)) 1
+  pub first : (m : ℕ) → m < length (d .blocks) → getD (t .pairs) (2 * m) 0 ≡ ofPair (onlyOf (writersOf d m)) (onlyOf (readersOf d m)) 0
+  pub second : (m : ℕ) → m < length (d .blocks) → getD (t .pairs) (2 * m + 1) 0 ≡ ofPair (onlyOf (writersOf d m)) (onlyOf (readersOf d m)) 1
+
+-- the tables of a well-formed description hold that
+pub row-tables : (d : Description) → WellFormed d → RowTables d (tablesOf d)
+unfolding tablesOf ownOf
+row-tables d w = record {
+  own = λ b k hb hk.
+      let q : (b * 8 + k) / 8 ≡ b = omega arith in
+      let r : (b * 8 + k) % 8 ≡ k = omega arith in
+      getD-table 128 (λ i. blockTerm d (i / 8) (i % 8)) (b * 8 + k) (omega arith) ∙ rw (q, r) refl;
+  allows = allowed-is d w;
+  first = first-of-pair d w;
+  second = second-of-pair d w;
+}
 
 module _ (d : Description) (w : WellFormed d) (t : Tables) (h : RowTables d t) (q : List ℕ) (low : (i : ℕ) → getD q i 0 < 8) where
   abbrev p : List ℕ
@@ -102,7 +117,7 @@ module _ (d : Description) (w : WellFormed d) (t : Tables) (h : RowTables d t) (
   service-low : (test : Edge → Bool) (e : Edge) → List·Memᴰ e (keep test (d .edges)) → e .service < 16
   service-low test e m = block-low d w (e .service) (service-named d (e .service) (edge-service d w e (keep-members test (d .edges) e .0 m .0)) .0)
 
-  moves-same : (m : ℕ) → m < 16 → movesBy t q m ≡ movesTo d p m
+  moves-same : (m : ℕ) → m < length (d .blocks) → movesBy t q m ≡ movesTo d p m
   unfolding movesBy movesTo
   moves-same m l =
       (rw (h .first m l, h .second m l) refl) ∙
@@ -138,4 +153,4 @@ module _ (d : Description) (w : WellFormed d) (t : Tables) (h : RowTables d t) (
   unfolding standsBy standsByStorage
   tests-same = ap not (any-agree _ _ (below (length (d .blocks))) (λ m i.
       let l = below-members (length (d .blocks)) m .0 i in
-      ap (cheaperBy t q m) (moves-same m (block-low d w m l)) ∙ cheaper-same m l (movesTo d p m) refl))
+      ap (cheaperBy t q m) (moves-same m l) ∙ cheaper-same m l (movesTo d p m) refl))

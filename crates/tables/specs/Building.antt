@@ -1,6 +1,7 @@
 -- The tables of a description that a walk over its placements takes: where blocks may stand and what they are charged there, the edges
 -- in the order of their later ends, and the data between one writer and one reader.
-use Prim.Native.Nat.{ℕ, zero, suc, _+_, _-_, _*_, _/_, _%_, _<_}
+use Prim.Native.Nat.{ℕ, zero, suc, _+_, _-_, _*_, _/_, _%_, _^_, _≤_, _<_}
+use mathlib.Core.Path.{_≡_}
 use mathlib.Core.Bool.{Bool, not, _&&_, _||_, cond}
 use mathlib.Core.List.{List, [], _∷_, _++_, map}
 use lib.Dec.{ltb, eqb}
@@ -10,17 +11,22 @@ use Rattle.description.specs.declared.workflow.Cloud.{Cloud}
 use Rattle.description.specs.declared.workflow.Edge.{Edge}
 use Rattle.description.specs.declared.workflow.Way.{Way}
 use Rattle.description.specs.declared.workflow.Way.the-variants.{Reads, Writes}
-use Rattle.description.specs.Format.{Description, cloud, block, edge, namesBlock, isWrite, sameWay}
+use Rattle.description.specs.Format.{Description, cloud, block, edge, namesBlock, sameWay}
 use Rattle.security.specs.Soundness.{mayStand}
 use Rattle.costs.specs.Terms.{blockTerm, edgeTerm, serviceSide, datumSide}
 use Rattle.sequences.specs.Lists.{keep, below}
 use Rattle.visiting.specs.Tables.{Tables, tables}
-use Rattle.tables.specs.declared.Part.{Part}
-use Rattle.tables.specs.declared.Part.the-variants.{Later, Other, Service, Written, Read}
 
 -- an array of n entries
 unfoldable pub table : (n : ℕ) → (ℕ → ℕ) → List ℕ
 table n f = map f (below n)
+
+-- an array of n entries, of which the first m are filled, and the others 0
+abbrev pub upTo : (m : ℕ) → (ℕ → ℕ) → ℕ → ℕ
+upTo m f i = cond (ltb i m) (f i) 0
+
+abbrev pub tableTo : (n m : ℕ) → (ℕ → ℕ) → List ℕ
+tableTo n m f = table n (upTo m f)
 
 -- every entry is below m
 abbrev pub AllBelow : ℕ → List ℕ → Type 0
@@ -57,19 +63,9 @@ other e = cond (ltb (e .service) (e .datum)) (e .service) (e .datum)
 abbrev pub lateIn : Description → ℕ → ℕ
 lateIn d n = later (edge d n)
 
--- what is taken out of an edge, where 255 is no datum; of all of them, as an array with 0 past the last
-abbrev pub partOf : Part → Edge → ℕ
-partOf Later e = later e
-partOf Other e = other e
-partOf Service e = e .service
-partOf Written e = cond (isWrite (e .way)) (e .datum) 255
-partOf Read e = cond (isWrite (e .way)) 255 (e .datum)
-
-abbrev pub partAt : Description → Part → ℕ → ℕ
-partAt d part n = cond (ltb n (length (d .edges))) (partOf part (edge d n)) 0
-
-unfoldable pub partsOf : Description → Part → List ℕ
-partsOf d part = table 32 (partAt d part)
+-- as an array, with 0 past the last
+unfoldable pub lateOf : Description → List ℕ
+lateOf d = tableTo 32 (length (d .edges)) (lateIn d)
 
 -- how many of n edges have a later end below k
 abbrev pub countBefore : (ℕ → ℕ) → (n k : ℕ) → ℕ
@@ -78,8 +74,9 @@ countBefore late n k = length (keep (λ e. ltb (late e) k) (below n))
 abbrev pub edgesBefore : Description → ℕ → ℕ
 edgesBefore d = countBefore (lateIn d) (length (d .edges))
 
+-- at k, up to the number of blocks
 unfoldable pub startsOf : Description → List ℕ
-startsOf d = table 17 (edgesBefore d)
+startsOf d = tableTo 17 (length (d .blocks) + 1) (edgesBefore d)
 
 -- the first n of some lists, one behind the other
 unfoldable pub joined : (ℕ → List ℕ) → ℕ → List ℕ
@@ -90,9 +87,19 @@ joined g (suc n) = joined g n ++ g n
 abbrev pub group : (ℕ → ℕ) → (n k : ℕ) → List ℕ
 group late n k = keep (λ e. eqb (late e) k) (below n)
 
+-- while that list is made: the groups below k of n numbers, and of group k what the first e numbers have
+unfoldable pub gathered : (ℕ → ℕ) → (n k e : ℕ) → List ℕ
+gathered late n k e = joined (group late n) k ++ group late e k
+
+-- an array of n entries has a list in front, of so many elements, and 0 behind it
+pub record Listed (n : ℕ) (l a : List ℕ) (count : ℕ) : Type 0 where
+  pub size : length a ≡ n
+  pub ends : count ≡ length l
+  pub same : (j : ℕ) → getD a j 0 ≡ getD l j 0
+
 -- the edges in the order of their later ends, and within one in edge order; and as an array, with 0 past the last
 unfoldable pub orderOf : Description → List ℕ
-orderOf d = joined (group (lateIn d) (length (d .edges))) 16
+orderOf d = joined (group (lateIn d) (length (d .edges))) (length (d .blocks))
 
 unfoldable pub ordered : Description → List ℕ
 ordered d = table 32 (λ i. getD (orderOf d) i 0)
@@ -110,12 +117,8 @@ pick a b (suc i) = b
 abbrev pub endOf : Edge → ℕ → ℕ
 endOf e = pick (later e) (other e)
 
--- the same by arrays of the ends and of the order
-abbrev pub endBy : (later other order : List ℕ) → ℕ → ℕ
-endBy later other order i = pick (getD later (getD order (i / 2) 0) 0) (getD other (getD order (i / 2) 0) 0) (i % 2)
-
 unfoldable pub endsOf : Description → List ℕ
-endsOf d = table 64 (λ i. endOf (edgeIn d (i / 2)) (i % 2))
+endsOf d = tableTo 64 (length (d .edges) * 2) (λ i. endOf (edgeIn d (i / 2)) (i % 2))
 
 -- what an edge adds with its later end on cloud x and its other end on y
 unfoldable pub termOf : Description → Edge → (x y : ℕ) → ℕ
@@ -133,18 +136,23 @@ sideOn e datum c end = cond (isDatumEnd e end) (datumSide (e .way) c datum) (ser
 abbrev pub sideOf : Description → Edge → (end k : ℕ) → ℕ
 sideOf d e end k = sideOn e (block d (e .datum)) (cloud d k) end
 
--- both ends on each cloud; 0 where it is not declared
-abbrev pub sideAt : Description → Edge → ℕ → ℕ
-sideAt d e i = cond (ltb (i % 8) (length (d .clouds))) (sideOf d e (i / 8) (i % 8)) 0
+-- an array of the sides of an edge: of end i / 8 on cloud i % 8, where that is declared
+pub record Sides (d : Description) (e : Edge) (a : List ℕ) : Type 0 where
+  pub size : length a ≡ 16
+  pub small : AllBelow (34 * 2 ^ 53) a
+  pub side : (i : ℕ) → i < 16 → i % 8 < length (d .clouds) → getD a i 0 ≡ sideOf d e (i / 8) (i % 8)
 
-unfoldable pub sidesOf : Description → Edge → List ℕ
-sidesOf d e = table 16 (sideAt d e)
+-- what an edge adds with its ends on clouds x and y, by its sides: 0 where both stand together
+abbrev pub sidesTogether : List ℕ → (x y : ℕ) → ℕ
+sidesTogether sides x y = cond (eqb x y) 0 (getD sides x 0 + getD sides (8 + y) 0)
 
--- entry i of the terms, by the sides of its edge: 0 where both ends stand together
-abbrev pub sidesTogether : List ℕ → ℕ → ℕ
-sidesTogether sides i = cond (eqb (i / 8 % 8) (i % 8)) 0 (getD sides (i / 8 % 8) 0 + getD sides (8 + i % 8) 0)
+-- row r, of eight entries, has the terms of the first m clouds; what is beside them is as it was
+pub record RowFilled (sides : List ℕ) (m r : ℕ) (before after : List ℕ) : Type 0 where
+  pub size : length after ≡ length before
+  pub row : (y : ℕ) → y < m → getD after (r * 8 + y) 0 ≡ sidesTogether sides (r % 8) y
+  pub others : (j : ℕ) → (r * 8 ≤ j → j < r * 8 + m → ⊥) → getD after j 0 ≡ getD before j 0
 
--- both clouds of that entry are among the first m
+-- both clouds of entry i are among the first m
 abbrev pub hasClouds : (m i : ℕ) → Bool
 hasClouds m i = ltb (i / 8 % 8) m && ltb (i % 8) m
 
@@ -157,18 +165,11 @@ termsOf d = table 2048 (termAt d)
 
 -- ---- data between one writer and one reader
 
--- v, the service of an edge, where no others come behind it
-abbrev pub alone : ℕ → List ℕ → ℕ
-alone v [] = v
-alone v (e ∷ es) = 255
-
--- the only service; 255 where there is none or there are more
-abbrev pub oneOf : List ℕ → ℕ
-oneOf [] = 255
-oneOf (v ∷ vs) = alone v vs
-
+-- the only edge's service; 255 where there is none or there are more
 abbrev pub onlyOf : List Edge → ℕ
-onlyOf es = oneOf (map (λ e. e .service) es)
+onlyOf [] = 255
+onlyOf (e ∷ []) = e .service
+onlyOf (e ∷ f ∷ es) = 255
 
 -- an edge reads, or writes, datum m; those edges
 abbrev pub isOf : Way → ℕ → Edge → Bool
@@ -181,9 +182,14 @@ edgesOf d way m = keep (isOf way m) (d .edges)
 abbrev pub only : Description → Way → ℕ → ℕ
 only d way m = onlyOf (edgesOf d way m)
 
--- the same of n edges, by arrays of their services and of the data that they read, or write
-abbrev pub onlyBy : (services touched : List ℕ) → (n m : ℕ) → ℕ
-onlyBy services touched n m = oneOf (map (λ i. getD services i 0) (keep (λ i. eqb (getD touched i 0) m) (below n)))
+-- the same while edges are still to come: 0 where there was none, 255 where there were more, otherwise the service and 1
+abbrev pub noted : List Edge → ℕ
+noted [] = 0
+noted (e ∷ []) = e .service + 1
+noted (e ∷ f ∷ es) = 255
+
+abbrev pub onlyIn : ℕ → ℕ
+onlyIn n = cond (eqb n 0 || eqb n 255) 255 (n - 1)
 
 -- of two numbers the first, or the second; 255 where one of them is
 abbrev pub ofPair : (a b : ℕ) → ℕ → ℕ
@@ -194,7 +200,7 @@ abbrev pub pairAt : Description → ℕ → ℕ
 pairAt d i = ofPair (only d Writes (i / 2)) (only d Reads (i / 2)) (i % 2)
 
 unfoldable pub pairsOf : Description → List ℕ
-pairsOf d = table 32 (pairAt d)
+pairsOf d = tableTo 32 (2 * length (d .blocks)) (pairAt d)
 
 -- ---- all of them
 

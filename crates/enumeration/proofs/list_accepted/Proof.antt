@@ -1,14 +1,14 @@
 -- What is accepted is listed where there is room, and else refused as it was lent.
-use Prim.Native.Nat.{ℕ, min, _≤_}
-use mathlib.Core.Path.{_≡_, sym, ap, ap₂, subst, _∙_}
-use mathlib.Core.List.{List, _++_}
+use Prim.Native.Nat.{min, _≤_}
+use mathlib.Core.Path.{sym, ap, _∙_}
 use lib.ListN.{length}
 use native.Mathlib.Omega.{arith}
 use Rattle.description.specs.Meaning.{describes}
 use Rattle.lister.specs.Rows.{rows}
-use Rattle.sequences.specs.Results.{Result, ok, refused}
+use Rattle.sequences.specs.Results.{ok, refused}
 use Rattle.enumeration.specs.WholeList.{needed}
-use Rattle.enumeration.proofs.Answers.{fitting, short, none-missing, some-missing}
+use Rattle.enumeration.proofs.Answers.{fitting, short}
+use Rattle.sequences.proofs.Tests.{none-missing, some-missing}
 use borrow.Author.Needs.{needs}
 use Rattle.enumeration.proofs.list_accepted.Statement.{statement}
 use Rattle.enumeration.proofs.list_accepted.Tie as tie
@@ -27,22 +27,29 @@ same-length-2 c = search needs
 
 returns : tie.Need-returns
 returns c =
-    let s = c .before .before .before .before .before .before .before .before in
-    let d = describes (s .args .w) in
     let m = c .before .missing in
     let room = c .before .before .shorter in
+    let a = c .before .before .before .before .before .before .before .args in
+    let d = describes (a .w .now) in
     let (less, all) = some-missing (needed d) (room .result) (m .result) (m .ensures) (c .if1 .taken) in
-    let left = short (s .args .description .now) (min (length (s .args .rows .now)) (length (s .args .scratch .now))) d (s .pre) (omega (arith, less, room .ensures)) in
-    (ap (λ n. refused 16 n) all ∙ sym (left .answers), (sym (left .rows (s .args .rows .now)), sym (left .scratch (s .args .scratch .now))))
+    let left = short d (min (length (a .rows .now)) (length (a .scratch .now))) (omega (arith, less, room .ensures)) in
+    (ap (λ n. refused 16 n) all ∙ sym (left .answers), (sym (left .rows (a .rows .now)), sym (left .scratch (a .scratch .now))))
+
+-- nothing is missing
+fits : (c : tie.Else1) → let s = c .before .before .before .before .before .before .before in
+    needed (describes (s .args .w .now)) ≤ c .before .before .shorter .result
+fits c =
+    let m = c .before .missing in
+    let room = c .before .before .shorter in
+    let s = c .before .before .before .before .before .before .before in
+    none-missing (needed (describes (s .args .w .now))) (room .result) (m .result) (m .ensures) (c .if1 .left)
 
 list-fitting-requires : tie.Need-list-fitting-requires
 list-fitting-requires c κs =
-    let s = c .before .before .before .before .before .before .before .before .before .before in
-    let d = describes (s .args .w) in
-    let m = c .before .before .before .missing in
-    let room = c .before .before .before .before .shorter in
-    let h = none-missing (needed d) (room .result) (m .result) (m .ensures) (c .before .before .if1 .left) in
-    (s .pre, (omega (arith, h, room .ensures), omega (arith, h, room .ensures)))
+    let more = c .before .before in
+    let room = more .before .before .shorter in
+    let s = more .before .before .before .before .before .before .before in
+    (s .pre .0, (s .pre .1, (omega (arith, fits more, room .ensures), omega (arith, fits more, room .ensures))))
 
 same-length-3 : tie.Need-same-length-3
 same-length-3 c = search needs
@@ -52,14 +59,15 @@ same-length-4 c = search needs
 
 returns-2 : tie.Need-returns-2
 returns-2 c =
-    let s = c .before .before .before .before .before .before .before .before .before .before .before .before .before .before .before in
-    let d = describes (s .args .w) in
-    let m = c .before .before .before .before .before .before .before .before .missing in
-    let room = c .before .before .before .before .before .before .before .before .before .shorter in
-    let h = none-missing (needed d) (room .result) (m .result) (m .ensures) (c .before .before .before .before .before .before .before .if1 .left) in
-    let left = fitting (s .args .description .now) (min (length (s .args .rows .now)) (length (s .args .scratch .now))) d (s .pre) (omega (arith, h, room .ensures)) in
     let l = c .before .before .before .before .list-fitting in
-    ((λ i. ok (l .ensures .0 .0 i, l .ensures .0 .1 i)) ∙ sym (left .answers), (l .ensures .1 .0 ∙ sym (left .rows (s .args .rows .now)), l .ensures .1 .1 ∙ sym (left .scratch (s .args .scratch .now))))
+    let more = c .before .before .before .before .before .before .before in
+    let room = more .before .before .shorter in
+    let a = more .before .before .before .before .before .before .before .args in
+    let d = describes (a .w .now) in
+    let left = fitting d (min (length (a .rows .now)) (length (a .scratch .now))) (omega (arith, fits more, room .ensures)) in (
+      (λ i. ok (l .ensures .0 .0 i, l .ensures .0 .1 i)) ∙ sym (left .answers),
+      (l .ensures .1 .0 ∙ sym (left .rows (a .rows .now)), l .ensures .1 .1 ∙ sym (left .scratch (a .scratch .now))),
+    )
 
 pub list-accepted-spec : {M : Type 1} → statement M
 list-accepted-spec =

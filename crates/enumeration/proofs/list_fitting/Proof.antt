@@ -1,11 +1,10 @@
 -- The rows that the walk kept, sorted.
-use Prim.Native.Nat.{ℕ, _*_, _≤_}
-use mathlib.Core.Path.{_≡_, sym, ap, subst, _∙_}
-use mathlib.Core.Bool.{Bool, true, cond}
+use Prim.Native.Nat.{ℕ, _*_}
+use mathlib.Core.Path.{_≡_, ap, _∙_}
+use mathlib.Core.Bool.{true, cond}
 use mathlib.Core.List.{List, _++_}
 use lib.ListN.{length, drop, replicate, length-append, length-drop}
 use native.Mathlib.Omega.{arith}
-use Rattle.description.specs.Bytes.{Bytes}
 use Rattle.description.specs.Meaning.{describes}
 use Rattle.lister.specs.Rows.{rows}
 use Rattle.sorting.specs.Rows.{sortedFront, clearedFront, roomFor}
@@ -35,22 +34,30 @@ same-length-2 c = search needs
 returns : tie.Need-returns
 unfolding clearedFront
 returns c =
-    let s = c .before .before .before .before .before .before .before .before .before .before .before .before .before .before .before in
-    let text = s .args .description .now in
-    let d = describes (s .args .w) in
-    let bytes : Bytes text = λ i. c .before .before .before .before .before .before .before .before .before .before .before .before .before .before .shared-slice-known .given i .fits in
-    let kept = c .before .before .before .before .before .before .before .before .before .before .keep-rows in
-    let sorted = c .before .before .before .before .before .sort-rows in
+    let sort = c .before .before .before .before .before in
+    let keep = sort .before .before .before .before .before in
+    let s = keep .before .before .before .before in
+    let sorted = sort .sort-rows in
+    let kept = keep .keep-rows in
+    let admitted = s .pre .0 in
+    let fits = s .pre .1 .1 in
+    let d = describes (s .args .w .now) in
     let n : ℕ = kept .result in
+    let old : List ℕ = s .args .rows .now in
     let after : List ℕ = kept .last .1 .1 .0 in
     let spare : List ℕ = s .args .scratch .now in
-    let words : List ℕ = unsorted d ++ drop (needed d) (s .args .rows .now) in
-    let size : length words ≡ length (s .args .rows .now) = length-append (unsorted d) (drop (needed d) (s .args .rows .now)) ∙ omega (arith, unsorted-length text d bytes (s .pre .0), length-drop (needed d) (s .args .rows .now), s .pre .1 .0) in
-    let fit : roomFor n after spare ≡ true = ap (λ l. roomFor n l spare) (kept .ensures .1) ∙ roomed n words spare (omega (arith, size, kept .ensures .0, s .pre .1 .0)) (omega (arith, kept .ensures .0, s .pre .1 .1)) in (
+    let beyond : List ℕ = drop (needed d) old in
+    let words : List ℕ = unsorted d ++ beyond in
+    let size : length words ≡ length old =
+    length-append (unsorted d) beyond ∙ omega (arith, unsorted-length d admitted, length-drop (needed d) old, fits .0) in
+    let roomy = roomed n words spare (omega (arith, size, kept .ensures .0, fits .0)) (omega (arith, kept .ensures .0, fits .1)) in
+    let fit : roomFor n after spare ≡ true = ap (λ l. roomFor n l spare) (kept .ensures .1) ∙ roomy in (
       (kept .ensures .0, c .block-count .ensures .0),
       (
-        sorted .ensures .1 .0 ∙ ap (λ b. cond b (sortedFront n after) after) fit ∙ (λ i. sortedFront (kept .ensures .0 i) (kept .ensures .1 i)) ∙ sorted-front text d bytes (s .pre .0) (drop (needed d) (s .args .rows .now)),
-        sorted .ensures .1 .1 ∙ ap (λ b. cond b (clearedFront n spare) spare) fit ∙ ap (λ k. replicate (k * 2) 0 ++ drop (k * 2) spare) (kept .ensures .0),
+        sorted .ensures .1 .0 ∙ ap (λ b. cond b (sortedFront n after) after) fit ∙
+            (λ i. sortedFront (kept .ensures .0 i) (kept .ensures .1 i)) ∙ sorted-front d admitted beyond,
+        sorted .ensures .1 .1 ∙ ap (λ b. cond b (clearedFront n spare) spare) fit ∙
+            ap (λ k. replicate (k * 2) 0 ++ drop (k * 2) spare) (kept .ensures .0),
       ),
     )
 

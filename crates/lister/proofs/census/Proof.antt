@@ -1,8 +1,11 @@
 -- The census of what is accepted; a refusal is passed on.
-use mathlib.Core.Path.{_≡_, refl, sym, ap, _∙_}
-use Rattle.description.specs.Meaning.{describes, outcomeOf}
-use Rattle.description.proofs.Outcomes.{passes-on, goes-on-with}
-use Rattle.sequences.specs.Results.{Result, ok}
+use mathlib.Core.Path.{sym, ap, _∙_}
+use Rattle.description.specs.Bytes.{Bytes}
+use Rattle.description.specs.Meaning.{describes}
+use Rattle.security.specs.Soundness.{read}
+use Rattle.security.proofs.Accepted.{read-admitted}
+use Rattle.rules.proofs.Admissions.{Counted, is-accepted, is-refused}
+use Rattle.sequences.specs.Results.{Result, ok, andThen}
 use Rattle.lister.specs.Calls.{censusCall}
 use Rattle.lister.specs.Rows.{Census, census}
 use borrow.Author.Needs.{needs}
@@ -12,24 +15,46 @@ use Rattle.lister.proofs.census.Tie as tie
 accept-requires : tie.Need-accept-requires
 accept-requires c κs = search needs
 
-enum-told : tie.Need-enum-told
-enum-told c = search needs
+enum-known-admission : tie.Need-enum-known-admission
+enum-known-admission c = search needs
+
+-- what was accepted, and how many candidates it has
+counted : (c : tie.After-admission) → let accept = c .before .before in
+    Counted (read (accept .before .before .before .args .description .now)) (describes (accept .accept .last .1 .0)) (c .admission .given .0 .0)
+counted c =
+    let accept = c .before .before in
+    let told = c .admission .given in
+    let s = accept .before .before .before .args .description .now in
+    is-accepted (describes (accept .accept .last .1 .0)) (read s) (accept .accept .ensures .0) (told .0 .0) (told .1)
 
 count-all-requires : tie.Need-count-all-requires
-count-all-requires c κs = sym (c .before .before .before .accept .ensures) ∙ ap (λ o. outcomeOf o (describes (c .before .before .before .accept .result .workflow))) (c .enum-told .given .1)
+count-all-requires c κs =
+    let admitted = counted (c .before .before) in
+    let accept = c .before .before .before .before in
+    let start = accept .before .before in
+    let s = start .before .args .description .now in
+    let bytes : Bytes s = λ i. start .shared-slice-known .given i .fits in
+    (read-admitted s (describes (accept .accept .last .1 .0)) (admitted .accepted) bytes, admitted .number)
 
-enum-known-outcome : tie.Need-enum-known-outcome
-enum-known-outcome c = search needs
+enum-known-admission-2 : tie.Need-enum-known-admission-2
+enum-known-admission-2 c = search needs
 
 returns : tie.Need-returns
 unfolding censusCall
-returns c = ap {B = Result Census} ok (c .count-all .ensures) ∙ goes-on-with (describes (c .before .before .before .before .accept .result .workflow)) (c .before .before .before .before .accept .ensures) (λ d. ok (census d)) (c .before .enum-told .given .1)
+returns c =
+    let accepted = counted (c .before .before .before) .accepted in
+    ap {B = Result Census} ok (c .count-all .ensures) ∙ sym (ap (λ r. andThen r (λ d. ok (census d))) accepted)
 
 returns-2 : tie.Need-returns-2
 unfolding censusCall
-returns-2 c = passes-on (describes (c .before .before .before .before .accept .result .workflow)) (c .before .before .before .before .accept .ensures) (λ d. ok (census d)) (c .before .outcome .given .0 .0) (c .before .outcome .given .1)
+returns-2 c =
+    let accept = c .before .before .before in
+    let told = c .before .admission2 .given in
+    let s = accept .before .before .before .args .description .now in
+    let refusal = is-refused (describes (accept .accept .last .1 .0)) (read s) (accept .accept .ensures .0) (told .0 .0) (told .1) in
+    sym (ap (λ r. andThen r (λ d. ok (census d))) refusal)
 
 pub census-spec : {M : Type 1} → statement M
 census-spec =
     tie.close
-    (tie.spec accept-requires enum-told count-all-requires enum-known-outcome returns returns-2)
+    (tie.spec accept-requires enum-known-admission count-all-requires enum-known-admission-2 returns returns-2)

@@ -1,8 +1,15 @@
 -- The row of what is accepted; a refusal is passed on.
-use mathlib.Core.Path.{_≡_, refl, sym, ap, _∙_}
-use Rattle.description.specs.Meaning.{describes, outcomeOf}
-use Rattle.description.proofs.Outcomes.{passes-on, goes-on-with}
-use Rattle.sequences.specs.Results.{Result, ok}
+use mathlib.Core.Path.{sym, ap, _∙_}
+use mathlib.Core.Option.{Option}
+use Rattle.description.specs.Format.{Description}
+use Rattle.description.specs.Bytes.{Bytes}
+use Rattle.description.specs.Meaning.{describes}
+use Rattle.security.specs.Soundness.{read}
+use Rattle.security.proofs.Accepted.{read-admitted}
+use Rattle.rules.proofs.Admissions.{Counted, is-accepted, is-refused}
+use Rattle.sequences.specs.Results.{Result, ok, andThen}
+use Rattle.lister.specs.declared.Row.{Row}
+use Rattle.lister.specs.declared.Cursor.{Cursor}
 use Rattle.lister.specs.Answers.{drawAnswer, rowBeside}
 use Rattle.lister.specs.Calls.{drawCall}
 use Rattle.lister.specs.Rows.{draw}
@@ -13,34 +20,63 @@ use Rattle.lister.proofs.draw.Tie as tie
 accept-requires : tie.Need-accept-requires
 accept-requires c κs = search needs
 
-enum-told : tie.Need-enum-told
-enum-told c = search needs
+enum-known-admission : tie.Need-enum-known-admission
+enum-known-admission c = search needs
+
+-- what was accepted, and how many candidates it has
+counted : (c : tie.After-admission) → let accept = c .before .before in
+    Counted (read (accept .before .before .before .args .description .now)) (describes (accept .accept .last .1 .0)) (c .admission .given .0 .0)
+counted c =
+    let accept = c .before .before in
+    let told = c .admission .given in
+    let s = accept .before .before .before .args .description .now in
+    is-accepted (describes (accept .accept .last .1 .0)) (read s) (accept .accept .ensures .0) (told .0 .0) (told .1)
 
 row-past-requires : tie.Need-row-past-requires
-row-past-requires c κs = sym (c .before .before .before .accept .ensures) ∙ ap (λ o. outcomeOf o (describes (c .before .before .before .accept .result .workflow))) (c .enum-told .given .1)
+row-past-requires c κs =
+    let admitted = counted (c .before .before) in
+    let accept = c .before .before .before .before in
+    let start = accept .before .before in
+    let s = start .before .args .description .now in
+    let bytes : Bytes s = λ i. start .shared-slice-known .given i .fits in
+    (read-admitted s (describes (accept .accept .last .1 .0)) (admitted .accepted) bytes, admitted .number)
 
-enum-known-outcome : tie.Need-enum-known-outcome
-enum-known-outcome c = search needs
+enum-known-admission-2 : tie.Need-enum-known-admission-2
+enum-known-admission-2 c = search needs
 
 without-row-requires : tie.Need-without-row-requires
 without-row-requires c κs = search needs
 
+-- what the call comes to for what Read gives
+abbrev called : Cursor → Result Description → Result (Option Row)
+called cursor r = andThen r (λ d. ok (draw d cursor))
+
 returns : tie.Need-returns
 unfolding drawCall
-returns c = (c .row-past .ensures .0 ∙ goes-on-with (describes (c .before .before .before .before .accept .result .workflow)) (c .before .before .before .before .accept .ensures) (λ d. ok (draw d (c .before .before .before .before .before .before .args .cursor))) (c .before .enum-told .given .1), c .row-past .ensures .1 ∙ ap rowBeside (goes-on-with (describes (c .before .before .before .before .accept .result .workflow)) (c .before .before .before .before .accept .ensures) (λ d. ok (draw d (c .before .before .before .before .before .before .args .cursor))) (c .before .enum-told .given .1)))
+returns c =
+    let admission = c .before .before .before in
+    let cursor = admission .before .before .before .before .before .args .cursor in
+    let same = sym (ap (called cursor) (counted admission .accepted)) in
+    (c .row-past .ensures .0 ∙ same, c .row-past .ensures .1 ∙ ap rowBeside same)
 
 returns-2 : tie.Need-returns-2
 unfolding drawCall
-returns-2 c = (ap drawAnswer (c .without-row .ensures) ∙ passes-on (describes (c .before .before .before .before .before .accept .result .workflow)) (c .before .before .before .before .before .accept .ensures) (λ d. ok (draw d (c .before .before .before .before .before .before .before .args .cursor))) (c .before .before .outcome .given .0 .0) (c .before .before .outcome .given .1), ap (λ a. a .row) (c .without-row .ensures) ∙ ap rowBeside (passes-on (describes (c .before .before .before .before .before .accept .result .workflow)) (c .before .before .before .before .before .accept .ensures) (λ d. ok (draw d (c .before .before .before .before .before .before .before .args .cursor))) (c .before .before .outcome .given .0 .0) (c .before .before .outcome .given .1)))
+returns-2 c =
+    let told = c .before .before .admission2 .given in
+    let accept = c .before .before .before .before in
+    let a = accept .before .before .before .args in
+    let refusal = is-refused (describes (accept .accept .last .1 .0)) (read (a .description .now)) (accept .accept .ensures .0) (told .0 .0) (told .1) in
+    let same = sym (ap (called (a .cursor)) refusal) in
+    (ap drawAnswer (c .without-row .ensures) ∙ same, ap (λ x. x .row) (c .without-row .ensures) ∙ ap rowBeside same)
 
 pub draw-spec : {M : Type 1} → statement M
 draw-spec =
     tie.close
     (tie.spec
     accept-requires
-    enum-told
+    enum-known-admission
     row-past-requires
-    enum-known-outcome
+    enum-known-admission-2
     without-row-requires
     returns
     returns-2)

@@ -1,8 +1,10 @@
 -- The verdict on what is accepted; a refusal is passed on.
-use mathlib.Core.Path.{_∙_}
+use mathlib.Core.Path.{sym, ap, _∙_}
 use Rattle.description.specs.Meaning.{describes}
-use Rattle.description.proofs.Outcomes.{passes-on, goes-on-with}
+use Rattle.security.specs.Soundness.{read}
+use Rattle.sequences.specs.Results.{andThen}
 use Rattle.rules.specs.Calls.{judgeCall}
+use Rattle.rules.proofs.Admissions.{is-accepted, is-refused}
 use Rattle.security.specs.Placements.{judge}
 use borrow.Author.Needs.{needs}
 use Rattle.rules.proofs.judge.Statement.{statement}
@@ -17,18 +19,28 @@ enum-told c = search needs
 verdict-requires : tie.Need-verdict-requires
 verdict-requires c κs = search needs
 
-enum-known-outcome : tie.Need-enum-known-outcome
-enum-known-outcome c = search needs
+enum-known-admission : tie.Need-enum-known-admission
+enum-known-admission c = search needs
 
 returns : tie.Need-returns
 unfolding judgeCall
-returns c = c .verdict .ensures ∙ goes-on-with (describes (c .before .before .before .before .accept .result .workflow)) (c .before .before .before .before .accept .ensures) (λ d. judge d (c .before .before .before .before .before .before .args .placement)) (c .before .enum-told .given .1)
+returns c =
+    let accept = c .before .before .before .before .accept in
+    let told = c .before .before .enum-told .given in
+    let a = c .before .before .before .before .before .before .before .args in
+    let accepted = is-accepted (describes (accept .last .1 .0)) (read (a .description .now)) (accept .ensures .0) (told .0 .0) (told .1) .accepted in
+    c .verdict .ensures ∙ sym (ap (λ r. andThen r (λ d. judge d (a .placement))) accepted)
 
 returns-2 : tie.Need-returns-2
 unfolding judgeCall
-returns-2 c = passes-on (describes (c .before .before .before .before .accept .result .workflow)) (c .before .before .before .before .accept .ensures) (λ d. judge d (c .before .before .before .before .before .before .args .placement)) (c .before .outcome .given .0 .0) (c .before .outcome .given .1)
+returns-2 c =
+    let accept = c .before .before .before .accept in
+    let told = c .before .admission .given in
+    let a = c .before .before .before .before .before .before .args in
+    let refusal = is-refused (describes (accept .last .1 .0)) (read (a .description .now)) (accept .ensures .0) (told .0 .0) (told .1) in
+    sym (ap (λ r. andThen r (λ d. judge d (a .placement))) refusal)
 
 pub judge-spec : {M : Type 1} → statement M
 judge-spec =
     tie.close
-    (tie.spec accept-requires enum-told verdict-requires enum-known-outcome returns returns-2)
+    (tie.spec accept-requires enum-told verdict-requires enum-known-admission returns returns-2)

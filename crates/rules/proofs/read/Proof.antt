@@ -1,9 +1,10 @@
 -- The counts of what is accepted; a refusal is passed on.
-use mathlib.Core.Path.{_∙_}
+use mathlib.Core.Path.{sym, ap, _∙_}
 use Rattle.description.specs.Meaning.{describes}
-use Rattle.description.proofs.Outcomes.{passes-on, goes-on-with}
-use Rattle.sequences.specs.Results.{ok}
+use Rattle.security.specs.Soundness.{read}
+use Rattle.sequences.specs.Results.{ok, andThen}
 use Rattle.rules.specs.Calls.{countsOf, readCall}
+use Rattle.rules.proofs.Admissions.{is-accepted, is-refused}
 use borrow.Author.Needs.{needs}
 use Rattle.rules.proofs.read.Statement.{statement}
 use Rattle.rules.proofs.read.Tie as tie
@@ -23,16 +24,30 @@ block-count-requires c κs = search needs
 edge-count-requires : tie.Need-edge-count-requires
 edge-count-requires c κs = search needs
 
-enum-known-outcome : tie.Need-enum-known-outcome
-enum-known-outcome c = search needs
+enum-known-admission : tie.Need-enum-known-admission
+enum-known-admission c = search needs
 
 returns : tie.Need-returns
 unfolding readCall
-returns c = (λ i. ok (record { clouds = c .before .before .cloud-count .ensures .0 i; blocks = c .before .block-count .ensures .0 i; edges = c .edge-count .ensures .0 i })) ∙ goes-on-with (describes (c .before .before .before .before .before .before .accept .result .workflow)) (c .before .before .before .before .before .before .accept .ensures) (λ d. ok (countsOf d)) (c .before .before .before .enum-told .given .1)
+returns c =
+    let admitted = c .before .before .before .before .before .before in
+    let accept = admitted .before .before .accept in
+    let told = admitted .enum-told .given in
+    let s = admitted .before .before .before .before .before .args .description .now in
+    let accepted = is-accepted (describes (accept .last .1 .0)) (read s) (accept .ensures .0) (told .0 .0) (told .1) .accepted in
+    (λ i. ok (record {
+      clouds = c .before .before .before .before .cloud-count .ensures .0 i;
+      blocks = c .before .before .block-count .ensures .0 i;
+      edges = c .edge-count .ensures .0 i;
+    })) ∙ sym (ap (λ r. andThen r (λ d. ok (countsOf d))) accepted)
 
 returns-2 : tie.Need-returns-2
 unfolding readCall
-returns-2 c = passes-on (describes (c .before .before .before .before .accept .result .workflow)) (c .before .before .before .before .accept .ensures) (λ d. ok (countsOf d)) (c .before .outcome .given .0 .0) (c .before .outcome .given .1)
+returns-2 c =
+    let accept = c .before .before .before .accept in
+    let told = c .before .admission .given in
+    let s = c .before .before .before .before .before .before .args .description .now in
+    sym (ap (λ r. andThen r (λ d. ok (countsOf d))) (is-refused (describes (accept .last .1 .0)) (read s) (accept .ensures .0) (told .0 .0) (told .1)))
 
 pub read-spec : {M : Type 1} → statement M
 read-spec =
@@ -43,6 +58,6 @@ read-spec =
     cloud-count-requires
     block-count-requires
     edge-count-requires
-    enum-known-outcome
+    enum-known-admission
     returns
     returns-2)

@@ -2,13 +2,16 @@
 use mathlib.Core.Path.{sym, ap, _∙_}
 use lib.ListN.{length}
 use mathlib.Core.List.{List}
-use Rattle.description.specs.Meaning.{describes, outcomeOf}
+use Prim.Native.Nat.{ℕ}
+use Rattle.description.specs.Meaning.{describes}
 use Rattle.description.specs.Format.{Description}
 use Rattle.costs.specs.Transfers.{Transfer, transfers}
 use Rattle.costs.specs.Transfers.{fitted, bufferAfter}
 use Rattle.rules.specs.Calls.{transfersCall}
-use Rattle.sequences.specs.Results.{ok, andThen}
+use Rattle.rules.proofs.Admissions.{is-accepted, is-refused}
+use Rattle.sequences.specs.Results.{Result, ok, andThen}
 use Rattle.security.specs.Placements.{judge}
+use Rattle.security.specs.Soundness.{read}
 use borrow.Author.Needs.{needs}
 use Rattle.rules.proofs.transfers.Statement.{statement}
 use Rattle.rules.proofs.transfers.Tie as tie
@@ -22,19 +25,41 @@ enum-told c = search needs
 written-if-secure-requires : tie.Need-written-if-secure-requires
 written-if-secure-requires c κs = search needs
 
-enum-known-outcome : tie.Need-enum-known-outcome
-enum-known-outcome c = search needs
+enum-known-admission : tie.Need-enum-known-admission
+enum-known-admission c = search needs
 
 same-length : tie.Need-same-length
 same-length c = search needs
 
+-- what the call comes to for what Read gives
+abbrev called : List ℕ → ℕ → Result Description → Result (List Transfer)
+called placement room r = andThen r (λ (d : Description). andThen (judge d placement) (λ (u : Unit {0}). fitted room (transfers d placement)))
+
 returns : tie.Need-returns
 unfolding transfersCall bufferAfter
-returns c = (c .before .before .written-if-secure .ensures .0 ∙ sym (ap (λ r. andThen (andThen r (λ (d : Description). andThen (judge d (c .before .before .before .before .before .before .before .before .before .before .args .placement)) (λ (u : Unit {0}). fitted (length (c .before .before .before .before .before .before .before .before .before .before .args .buffer .now)) (transfers d (c .before .before .before .before .before .before .before .before .before .before .args .placement))))) (λ (ts : List Transfer). ok (length ts))) (sym (c .before .before .before .before .before .before .before .accept .ensures) ∙ ap (λ o. outcomeOf o (describes (c .before .before .before .before .before .before .before .accept .result .workflow))) (c .before .before .before .before .enum-told .given .1))), c .before .before .written-if-secure .ensures .1 ∙ sym (ap (λ r. bufferAfter (andThen r (λ (d : Description). andThen (judge d (c .before .before .before .before .before .before .before .before .before .before .args .placement)) (λ (u : Unit {0}). fitted (length (c .before .before .before .before .before .before .before .before .before .before .args .buffer .now)) (transfers d (c .before .before .before .before .before .before .before .before .before .before .args .placement))))) (c .before .before .before .before .before .before .before .before .before .before .args .buffer .now)) (sym (c .before .before .before .before .before .before .before .accept .ensures) ∙ ap (λ o. outcomeOf o (describes (c .before .before .before .before .before .before .before .accept .result .workflow))) (c .before .before .before .before .enum-told .given .1))))
+returns c =
+    let admitted = c .before .before .before .before .before in
+    let accept = admitted .before .before .accept in
+    let told = admitted .enum-told .given in
+    let a = admitted .before .before .before .before .before .before .args in
+    let call = called (a .placement) (length (a .buffer .now)) in
+    let accepted = is-accepted (describes (accept .last .1 .0)) (read (a .description .now)) (accept .ensures .0) (told .0 .0) (told .1) .accepted in
+    let written = c .before .before .written-if-secure .ensures in (
+      written .0 ∙ sym (ap (λ r. andThen (call r) (λ (ts : List Transfer). ok (length ts))) accepted),
+      written .1 ∙ sym (ap (λ r. bufferAfter (call r) (a .buffer .now)) accepted),
+    )
 
 returns-2 : tie.Need-returns-2
 unfolding transfersCall bufferAfter
-returns-2 c = (sym (ap (λ r. andThen (andThen r (λ (d : Description). andThen (judge d (c .before .before .before .before .before .before .before .args .placement)) (λ (u : Unit {0}). fitted (length (c .before .before .before .before .before .before .before .args .buffer .now)) (transfers d (c .before .before .before .before .before .before .before .args .placement))))) (λ (ts : List Transfer). ok (length ts))) (sym (c .before .before .before .before .accept .ensures) ∙ ap (λ o. outcomeOf o (describes (c .before .before .before .before .accept .result .workflow))) (c .before .outcome .given .1))), sym (ap (λ r. bufferAfter (andThen r (λ (d : Description). andThen (judge d (c .before .before .before .before .before .before .before .args .placement)) (λ (u : Unit {0}). fitted (length (c .before .before .before .before .before .before .before .args .buffer .now)) (transfers d (c .before .before .before .before .before .before .before .args .placement))))) (c .before .before .before .before .before .before .before .args .buffer .now)) (sym (c .before .before .before .before .accept .ensures) ∙ ap (λ o. outcomeOf o (describes (c .before .before .before .before .accept .result .workflow))) (c .before .outcome .given .1))))
+returns-2 c =
+    let accept = c .before .before .before .accept in
+    let told = c .before .admission .given in
+    let a = c .before .before .before .before .before .before .before .args in
+    let call = called (a .placement) (length (a .buffer .now)) in
+    let refusal = is-refused (describes (accept .last .1 .0)) (read (a .description .now)) (accept .ensures .0) (told .0 .0) (told .1) in (
+      sym (ap (λ r. andThen (call r) (λ (ts : List Transfer). ok (length ts))) refusal),
+      sym (ap (λ r. bufferAfter (call r) (a .buffer .now)) refusal),
+    )
 
 pub transfers-spec : {M : Type 1} → statement M
 transfers-spec =
@@ -43,7 +68,7 @@ transfers-spec =
     accept-requires
     enum-told
     written-if-secure-requires
-    enum-known-outcome
+    enum-known-admission
     same-length
     returns
     returns-2)

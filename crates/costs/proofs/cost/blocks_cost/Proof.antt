@@ -17,7 +17,10 @@ use Rattle.costs.proofs.cost.blocks_cost.Statement.{statement}
 use Rattle.costs.proofs.cost.blocks_cost.Tie as tie
 
 abbrev Inv-loop : tie.InvT-loop
-Inv-loop charge w placement n total₀ b₀ total b = (b ≤ n) × (n ≡ length (describes w .blocks)) × (n ≤ 16) × (total ≤ b * 281470681677825) × (ofBlocks (amountOf charge) (describes w) placement ≡ total + sum (map (ofBlock (amountOf charge) (describes w) placement) (drop b (below n))))
+Inv-loop charge w placement n total₀ b₀ total b =
+    let d = describes w in
+    (b ≤ n) × (n ≡ length (d .blocks)) × (n ≤ 16) × (total ≤ b * 281470681677825)
+    × (ofBlocks (amountOf charge) d placement ≡ total + sum (map (ofBlock (amountOf charge) d placement) (drop b (below n))))
 
 abbrev μ-loop : tie.MeasureT-loop
 μ-loop charge w placement n total₀ b₀ total b = n - b
@@ -26,7 +29,11 @@ block-count-requires : tie.Need-block-count-requires Inv-loop μ-loop
 block-count-requires c κs = search needs
 
 loop-holds : tie.Need-loop-holds Inv-loop μ-loop
-loop-holds c = (search needs, c .block-count .ensures .0, c .block-count .ensures .1, search needs, ap (λ (k : ℕ). sum (map (ofBlock (amountOf (c .before .args .charge)) (describes (c .before .args .w)) (c .before .args .placement)) (below k))) (sym (c .block-count .ensures .0)) ∙ sym (zero-add _))
+loop-holds c =
+    let a = c .before .args in
+    let amount = ofBlock (amountOf (a .charge)) (describes (a .w .now)) (a .placement) in
+    let count = c .block-count .ensures in
+    (search needs, count .0, count .1, search needs, ap (λ (k : ℕ). sum (map amount (below k))) (sym (count .0)) ∙ sym (zero-add _))
 
 cloud-of-requires : tie.Need-cloud-of-requires Inv-loop μ-loop
 cloud-of-requires c κs = search needs
@@ -53,21 +60,44 @@ loop-less : tie.Need-loop-less Inv-loop μ-loop
 loop-less c = search needs
 
 -- the amount in hand is block b's
-amount-is : (c : tie.After-amount-of Inv-loop μ-loop) → c .amount-of .result ≡ (ofBlock (amountOf (c .before .before .before .before .before .before .before .before .args .charge)) (describes (c .before .before .before .before .before .before .before .before .args .w)) (c .before .before .before .before .before .before .before .before .args .placement)) (c .before .before .before .before .before .before .loop .b)
-amount-is c = c .amount-of .ensures .0 ∙ (simp (c .before .before .cloud-at .ensures, c .before .block-at .ensures, c .before .before .before .wide .ensures, c .before .before .before .before .cloud-of .ensures))
+amount-is : (c : tie.After-amount-of Inv-loop μ-loop)
+    → let a = c .before .before .before .before .before .before .before .before .args in
+    c .amount-of .result ≡ ofBlock (amountOf (a .charge)) (describes (a .w .now)) (a .placement) (c .before .before .before .before .before .before .loop .b)
+amount-is c =
+    let cloud = c .before .before in
+    c .amount-of .ensures .0 ∙
+    simp (cloud .cloud-at .ensures, c .before .block-at .ensures, cloud .before .wide .ensures, cloud .before .before .cloud-of .ensures)
 
 -- block b's amount, and the rest
-next : (c : tie.After-amount-of Inv-loop μ-loop) → sum (map (ofBlock (amountOf (c .before .before .before .before .before .before .before .before .args .charge)) (describes (c .before .before .before .before .before .before .before .before .args .w)) (c .before .before .before .before .before .before .before .before .args .placement)) (drop (c .before .before .before .before .before .before .loop .b) (below (c .before .before .before .before .before .before .before .block-count .result)))) ≡ c .amount-of .result + sum (map (ofBlock (amountOf (c .before .before .before .before .before .before .before .before .args .charge)) (describes (c .before .before .before .before .before .before .before .before .args .w)) (c .before .before .before .before .before .before .before .before .args .placement)) (drop (c .before .before .before .before .before .before .loop .b + 1) (below (c .before .before .before .before .before .before .before .block-count .result))))
+next : (c : tie.After-amount-of Inv-loop μ-loop)
+    → let a = c .before .before .before .before .before .before .before .before .args in
+    let amount = ofBlock (amountOf (a .charge)) (describes (a .w .now)) (a .placement) in
+    let bs = below (c .before .before .before .before .before .before .before .block-count .result) in
+    let b = c .before .before .before .before .before .before .loop .b in
+    sum (map amount (drop b bs)) ≡ c .amount-of .result + sum (map amount (drop (b + 1) bs))
 next c =
-    let h : c .before .before .before .before .before .before .loop .b < length (below (c .before .before .before .before .before .before .before .block-count .result)) = simp length-below (omega arith) in
-    sum-next (ofBlock (amountOf (c .before .before .before .before .before .before .before .before .args .charge)) (describes (c .before .before .before .before .before .before .before .before .args .w)) (c .before .before .before .before .before .before .before .before .args .placement)) (below (c .before .before .before .before .before .before .before .block-count .result)) 0 (c .before .before .before .before .before .before .loop .b) h ∙
-    ap (λ x. x + sum (map (ofBlock (amountOf (c .before .before .before .before .before .before .before .before .args .charge)) (describes (c .before .before .before .before .before .before .before .before .args .w)) (c .before .before .before .before .before .before .before .before .args .placement)) (drop (c .before .before .before .before .before .before .loop .b + 1) (below (c .before .before .before .before .before .before .before .block-count .result))))) (ap (ofBlock (amountOf (c .before .before .before .before .before .before .before .before .args .charge)) (describes (c .before .before .before .before .before .before .before .before .args .w)) (c .before .before .before .before .before .before .before .before .args .placement)) (getD-below (c .before .before .before .before .before .before .before .block-count .result) (c .before .before .before .before .before .before .loop .b) 0 (omega arith)) ∙ sym (amount-is c))
+    let a = c .before .before .before .before .before .before .before .before .args in
+    let amount = ofBlock (amountOf (a .charge)) (describes (a .w .now)) (a .placement) in
+    let n = c .before .before .before .before .before .before .before .block-count .result in
+    let b = c .before .before .before .before .before .before .loop .b in
+    let h : b < length (below n) = simp length-below (omega arith) in
+    sum-next amount (below n) 0 b h ∙
+    ap (λ x. x + sum (map amount (drop (b + 1) (below n)))) (ap amount (getD-below n b 0 (omega arith)) ∙ sym (amount-is c))
 
 loop-again : tie.Need-loop-again Inv-loop μ-loop
-loop-again c = let s = next c in let h = c .amount-of .ensures .1 in (omega arith, c .before .before .before .before .before .before .loop .inv .1, c .before .before .before .before .before .before .loop .inv .2, omega arith, omega (arith, s, c .before .before .before .before .before .before .loop .inv .4))
+loop-again c =
+    let at = c .before .before .before .before .before .before .loop in
+    let s = next c in
+    let h = c .amount-of .ensures .1 in
+    (omega arith, at .inv .1, at .inv .2, omega arith, omega (arith, s, at .inv .4))
 
 returns : tie.Need-returns Inv-loop μ-loop
-returns c = let s = sum-end (below (c .before .before .block-count .result)) (c .before .loop .b) (simp length-below (omega arith)) (ofBlock (amountOf (c .before .before .before .args .charge)) (describes (c .before .before .before .args .w)) (c .before .before .before .args .placement)) in omega (arith, s, c .before .loop .inv .4)
+returns c =
+    let at = c .before .loop in
+    let a = c .before .before .before .args in
+    let amount = ofBlock (amountOf (a .charge)) (describes (a .w .now)) (a .placement) in
+    let s = sum-end (below (c .before .before .block-count .result)) (at .b) (simp length-below (omega arith)) amount in
+    omega (arith, s, at .inv .4)
 
 pub blocks-cost-spec : {M : Type 1} → statement M
 blocks-cost-spec =

@@ -53,7 +53,10 @@ add-result c = search needs
 charged-of-requires : tie.Need-charged-of-requires
 charged-of-requires c κs = search needs
 
-charged : (c : tie.After-charged-of) → (c .before .before .before .before .before .before .before .before .cloud-at .result .outward + c .before .before .before .before .before .cloud-at2 .result .inward) * c .charged-of .result ≤ 131070 * 6554
+charged : (c : tie.After-charged-of)
+    → let from = c .before .before .before .before .before .before .before .before .cloud-at .result in
+    let into = c .before .before .before .before .before .cloud-at2 .result in
+    (from .outward + into .inward) * c .charged-of .result ≤ 131070 * 6554
 charged c = mul-le-mul {n₂ = 131070} {m₂ = 6554} (search needs) (c .charged-of .ensures .1)
 
 mul-result : tie.Need-mul-result
@@ -61,7 +64,24 @@ mul-result c = let h = charged c in omega arith
 
 returns-2 : tie.Need-returns-2
 unfolding edgeCost
-returns-2 c = (simp ((sym (c .before .before .before .before .before .before .before .before .before .before .before .before .moves .ensures) ∙ not-false _ (c .before .before .before .before .before .before .before .before .before .before .before .if1 .left)), c .before .before .before .before .before .before .before .before .cloud-at .ensures, c .before .before .before .before .before .cloud-at2 .ensures, c .before .before .before .block-at .ensures, c .charged-of .ensures .0, c .before .before .before .before .before .before .before .before .before .wide .ensures, c .before .before .before .before .before .before .wide2 .ensures, c .before .before .before .before .wide3 .ensures, c .before .before .before .before .before .before .before .before .before .before .source-of .ensures, c .before .before .before .before .before .before .before .destination-of .ensures), charged c)
+returns-2 c =
+    let into = c .before .before .before .before .before in
+    let from = into .before .before .before in
+    let moved = from .before .before .before in (
+      simp (
+        sym (moved .before .moves .ensures) ∙ not-false _ (moved .if1 .left),
+        from .cloud-at .ensures,
+        into .cloud-at2 .ensures,
+        c .before .before .before .block-at .ensures,
+        c .charged-of .ensures .0,
+        from .before .wide .ensures,
+        into .before .wide2 .ensures,
+        c .before .before .before .before .wide3 .ensures,
+        from .before .before .source-of .ensures,
+        into .before .before .destination-of .ensures,
+      ),
+      charged c,
+    )
 
 pub edge-cost-spec : {M : Type 1} → statement M
 edge-cost-spec =

@@ -19,7 +19,8 @@ gigabytes-requires c κs = search needs
 rated : (c : tie.After-gigabytes) → c .before .before .before .before .before .args .c .storage * c .gigabytes .result ≤ 65535 * 6554
 rated c = mul-le-mul {n₂ = 65535} {m₂ = 6554} (search needs) (c .gigabytes .ensures .1)
 
-product : (c : tie.After-gigabytes) → c .before .before .before .before .before .args .c .storage * c .gigabytes .result * c .before .before .before .k .given .0 .1 .0 ≤ 65535 * 6554 * 65535
+product : (c : tie.After-gigabytes)
+    → c .before .before .before .before .before .args .c .storage * c .gigabytes .result * c .before .before .before .k .given .0 .1 .0 ≤ 65535 * 6554 * 65535
 product c = mul-le-mul {n₂ = 429516390} {m₂ = 65535} (rated c) (search needs)
 
 mul-result : tie.Need-mul-result

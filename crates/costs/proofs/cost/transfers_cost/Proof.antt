@@ -17,7 +17,11 @@ use Rattle.costs.proofs.cost.transfers_cost.Statement.{statement}
 use Rattle.costs.proofs.cost.transfers_cost.Tie as tie
 
 abbrev Inv-loop : tie.InvT-loop
-Inv-loop w placement n total₀ i₀ total i = (i ≤ n) × (n ≡ length (describes w .edges)) × (n ≤ 32) × (total ≤ i * 859032780) × (sum (map (transferCost (describes w)) (transfers (describes w) placement)) ≡ total + sum (map (transferCost (describes w)) (transfersFrom i placement (drop i (describes w .edges)))))
+Inv-loop w placement n total₀ i₀ total i =
+    let d = describes w in
+    let cost = transferCost d in
+    (i ≤ n) × (n ≡ length (d .edges)) × (n ≤ 32) × (total ≤ i * 859032780)
+    × (sum (map cost (transfers d placement)) ≡ total + sum (map cost (transfersFrom i placement (drop i (d .edges)))))
 
 abbrev μ-loop : tie.MeasureT-loop
 μ-loop w placement n total₀ i₀ total i = n - i
@@ -45,10 +49,23 @@ loop-less : tie.Need-loop-less Inv-loop μ-loop
 loop-less c = search needs
 
 loop-again : tie.Need-loop-again Inv-loop μ-loop
-loop-again c = let h = c .edge-cost .ensures .1 in let e = c .edge-cost .ensures .0 ∙ ap (edgeCost (describes (c .before .before .before .before .before .args .w)) (c .before .before .before .before .before .args .placement)) (c .before .edge-at .ensures) in (omega arith, c .before .before .before .loop .inv .1, c .before .before .before .loop .inv .2, omega arith, omega (arith, cost-next (describes (c .before .before .before .before .before .args .w)) (c .before .before .before .before .before .args .placement) (describes (c .before .before .before .before .before .args .w) .edges) (c .before .before .before .loop .i) (omega arith), e, c .before .before .before .loop .inv .4))
+loop-again c =
+    let at = c .before .before .before .loop in
+    let a = c .before .before .before .before .before .args in
+    let d = describes (a .w .now) in
+    let h = c .edge-cost .ensures .1 in
+    let e = c .edge-cost .ensures .0 ∙ ap (edgeCost d (a .placement)) (c .before .edge-at .ensures) in
+    let next = cost-next d (a .placement) (d .edges) (at .i) (omega arith) in
+    (omega arith, at .inv .1, at .inv .2, omega arith, omega (arith, next, e, at .inv .4))
 
 returns : tie.Need-returns Inv-loop μ-loop
-returns c = let s = ap (λ l. sum (map (transferCost (describes (c .before .before .before .args .w))) (transfersFrom (c .before .loop .i) (c .before .before .before .args .placement) l))) (drop-of-length-le (describes (c .before .before .before .args .w) .edges) {i = c .before .loop .i} (omega arith)) in omega (arith, s, c .before .loop .inv .4)
+returns c =
+    let at = c .before .loop in
+    let a = c .before .before .before .args in
+    let d = describes (a .w .now) in
+    let none = drop-of-length-le (d .edges) {i = at .i} (omega arith) in
+    let s = ap (λ l. sum (map (transferCost d) (transfersFrom (at .i) (a .placement) l))) none in
+    omega (arith, s, at .inv .4)
 
 pub transfers-cost-spec : {M : Type 1} → statement M
 transfers-cost-spec =

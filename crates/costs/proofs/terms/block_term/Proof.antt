@@ -22,7 +22,10 @@ add-result c = search needs
 
 returns : tie.Need-returns
 unfolding blockTerm
-returns c = (simp (c .before .storage-of .ensures .0, c .cpu-of .ensures .0, c .before .before .before .cloud-at .ensures, c .before .before .block-at .ensures), omega arith)
+returns c =
+    let storage = c .before .storage-of .ensures .0 in
+    let cpu = c .cpu-of .ensures .0 in
+    (simp (storage, cpu, c .before .before .before .cloud-at .ensures, c .before .before .block-at .ensures), omega arith)
 
 pub block-term-spec : {M : Type 1} → statement M
 block-term-spec =

@@ -55,7 +55,9 @@ same-length : tie.Need-same-length
 same-length c = search needs
 
 returns-2 : tie.Need-returns-2
-returns-2 c = simp ((sym (c .before .before .before .moves .ensures) ∙ not-false _ (c .before .before .if1 .left)), c .before .source-of .ensures, c .destination-of .ensures, add-one, add-two, add-three) (refl, refl)
+returns-2 c =
+    let moved = sym (c .before .before .before .moves .ensures) ∙ not-false _ (c .before .before .if1 .left) in
+    simp (moved, c .before .source-of .ensures, c .destination-of .ensures, add-one, add-two, add-three) (refl, refl)
 
 pub put-transfer-spec : {M : Type 1} → statement M
 put-transfer-spec =

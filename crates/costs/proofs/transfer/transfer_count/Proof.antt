@@ -19,7 +19,10 @@ use Rattle.costs.proofs.transfer.transfer_count.Statement.{statement}
 use Rattle.costs.proofs.transfer.transfer_count.Tie as tie
 
 abbrev Inv-loop : tie.InvT-loop
-Inv-loop w placement n found₀ i₀ found i = (i ≤ n) × (n ≡ length (describes w .edges)) × (n ≤ 32) × (found ≤ i) × (length (transfers (describes w) placement) ≡ found + length (transfersFrom i placement (drop i (describes w .edges))))
+Inv-loop w placement n found₀ i₀ found i =
+    let d = describes w in
+    (i ≤ n) × (n ≡ length (d .edges)) × (n ≤ 32) × (found ≤ i)
+    × (length (transfers d placement) ≡ found + length (transfersFrom i placement (drop i (d .edges))))
 
 abbrev μ-loop : tie.MeasureT-loop
 μ-loop w placement n found₀ i₀ found i = n - i
@@ -47,10 +50,27 @@ loop-less : tie.Need-loop-less Inv-loop μ-loop
 loop-less c = search needs
 
 loop-again : tie.Need-loop-again Inv-loop μ-loop
-loop-again c = ⊎-elim (λ w. let m = moved-one (c .before .before .before .before .loop .i) (c .before .before .before .before .before .before .args .placement) (getD (describes (c .before .before .before .before .before .before .args .w) .edges) (c .before .before .before .before .loop .i) noEdge) (told (moves (c .before .before .before .before .before .before .args .placement)) (c .before .before .edge-at .ensures) (c .before .moves .ensures) (w .0 .taken)) in omega (arith, ap length (from-next (c .before .before .before .before .before .before .args .placement) (describes (c .before .before .before .before .before .before .args .w) .edges) (c .before .before .before .before .loop .i) (omega arith)) ∙ length-append (transfersFrom (c .before .before .before .before .loop .i) (c .before .before .before .before .before .before .args .placement) (getD (describes (c .before .before .before .before .before .before .args .w) .edges) (c .before .before .before .before .loop .i) noEdge ∷ [])) (transfersFrom (c .before .before .before .before .loop .i + 1) (c .before .before .before .before .before .before .args .placement) (drop (c .before .before .before .before .loop .i + 1) (describes (c .before .before .before .before .before .before .args .w) .edges))), c .before .before .before .before .loop .inv .4)) (λ w. let m = stayed-none (c .before .before .before .before .loop .i) (c .before .before .before .before .before .before .args .placement) (getD (describes (c .before .before .before .before .before .before .args .w) .edges) (c .before .before .before .before .loop .i) noEdge) (told (moves (c .before .before .before .before .before .before .args .placement)) (c .before .before .edge-at .ensures) (c .before .moves .ensures) (w .0 .left)) in omega (arith, ap length (from-next (c .before .before .before .before .before .before .args .placement) (describes (c .before .before .before .before .before .before .args .w) .edges) (c .before .before .before .before .loop .i) (omega arith)) ∙ length-append (transfersFrom (c .before .before .before .before .loop .i) (c .before .before .before .before .before .before .args .placement) (getD (describes (c .before .before .before .before .before .before .args .w) .edges) (c .before .before .before .before .loop .i) noEdge ∷ [])) (transfersFrom (c .before .before .before .before .loop .i + 1) (c .before .before .before .before .before .before .args .placement) (drop (c .before .before .before .before .loop .i + 1) (describes (c .before .before .before .before .before .before .args .w) .edges))), c .before .before .before .before .loop .inv .4)) (c .if1 .came)
+loop-again c =
+    let at = c .before .before .before .before .loop in
+    let a = c .before .before .before .before .before .before .args in
+    let p = a .placement in
+    let es = describes (a .w .now) .edges in
+    let e = getD es (at .i) noEdge in
+    let rest = transfersFrom (at .i + 1) p (drop (at .i + 1) es) in
+    let split = ap length (from-next p es (at .i) (omega arith)) ∙ length-append (transfersFrom (at .i) p (e ∷ [])) rest in
+    let same = c .before .before .edge-at .ensures in
+    let test = c .before .moves .ensures in
+    ⊎-elim
+    (λ w. omega (arith, moved-one (at .i) p e (told (moves p) same test (w .0 .taken)), split, at .inv .4))
+    (λ w. omega (arith, stayed-none (at .i) p e (told (moves p) same test (w .0 .left)), split, at .inv .4))
+    (c .if1 .came)
 
 returns : tie.Need-returns Inv-loop μ-loop
-returns c = omega (arith, ap (λ l. length (transfersFrom (c .before .loop .i) (c .before .before .before .args .placement) l)) (drop-of-length-le (describes (c .before .before .before .args .w) .edges) {i = c .before .loop .i} (omega arith)), c .before .loop .inv .4)
+returns c =
+    let at = c .before .loop in
+    let a = c .before .before .before .args in
+    let none = drop-of-length-le (describes (a .w .now) .edges) {i = at .i} (omega arith) in
+    omega (arith, ap (λ l. length (transfersFrom (at .i) (a .placement) l)) none, at .inv .4)
 
 pub transfer-count-spec : {M : Type 1} → statement M
 transfer-count-spec =

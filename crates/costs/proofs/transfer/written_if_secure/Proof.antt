@@ -28,11 +28,28 @@ same-length c = search needs
 
 returns : tie.Need-returns
 unfolding bufferAfter
-returns c = (c .before .before .written .ensures .0 ∙ sym (ap (λ j. andThen (andThen j (λ (u : Unit {0}). fitted (length (c .before .before .before .before .before .before .before .before .args .buffer .now)) (transfers (describes (c .before .before .before .before .before .before .before .before .args .w)) (c .before .before .before .before .before .before .before .before .args .placement)))) (λ (ts : List Transfer). ok (length ts))) (sym (c .before .before .before .before .before .before .verdict .ensures) ∙ ap judgeAnswer (c .before .before .before .before .enum-told .given .1))), c .before .before .written .ensures .1 ∙ sym (ap (λ j. bufferAfter (andThen j (λ (u : Unit {0}). fitted (length (c .before .before .before .before .before .before .before .before .args .buffer .now)) (transfers (describes (c .before .before .before .before .before .before .before .before .args .w)) (c .before .before .before .before .before .before .before .before .args .placement)))) (c .before .before .before .before .before .before .before .before .args .buffer .now)) (sym (c .before .before .before .before .before .before .verdict .ensures) ∙ ap judgeAnswer (c .before .before .before .before .enum-told .given .1))))
+returns c =
+    let written = c .before .before .written .ensures in
+    let told = c .before .before .before .before in
+    let secure = sym (told .before .before .verdict .ensures) ∙ ap judgeAnswer (told .enum-told .given .1) in
+    let a = told .before .before .before .before .args in
+    let buffer = a .buffer .now in
+    let fit = fitted (length buffer) (transfers (describes (a .w .now)) (a .placement)) in (
+      written .0 ∙ sym (ap (λ j. andThen (andThen j (λ (u : Unit {0}). fit)) (λ (ts : List Transfer). ok (length ts))) secure),
+      written .1 ∙ sym (ap (λ j. bufferAfter (andThen j (λ (u : Unit {0}). fit)) buffer) secure),
+    )
 
 returns-2 : tie.Need-returns-2
 unfolding bufferAfter
-returns-2 c = (sym (ap (λ j. andThen (andThen j (λ (u : Unit {0}). fitted (length (c .before .before .before .before .before .args .buffer .now)) (transfers (describes (c .before .before .before .before .before .args .w)) (c .before .before .before .before .before .args .placement)))) (λ (ts : List Transfer). ok (length ts))) (sym (c .before .before .before .verdict .ensures) ∙ ap judgeAnswer (c .before .v .given .1))), sym (ap (λ j. bufferAfter (andThen j (λ (u : Unit {0}). fitted (length (c .before .before .before .before .before .args .buffer .now)) (transfers (describes (c .before .before .before .before .before .args .w)) (c .before .before .before .before .before .args .placement)))) (c .before .before .before .before .before .args .buffer .now)) (sym (c .before .before .before .verdict .ensures) ∙ ap judgeAnswer (c .before .v .given .1))))
+returns-2 c =
+    let known = c .before in
+    let refusal = sym (known .before .before .verdict .ensures) ∙ ap judgeAnswer (known .v .given .1) in
+    let a = known .before .before .before .before .args in
+    let buffer = a .buffer .now in
+    let fit = fitted (length buffer) (transfers (describes (a .w .now)) (a .placement)) in (
+      sym (ap (λ j. andThen (andThen j (λ (u : Unit {0}). fit)) (λ (ts : List Transfer). ok (length ts))) refusal),
+      sym (ap (λ j. bufferAfter (andThen j (λ (u : Unit {0}). fit)) buffer) refusal),
+    )
 
 pub written-if-secure-spec : {M : Type 1} → statement M
 written-if-secure-spec =

@@ -1,11 +1,10 @@
 -- Two bytes are below 256, so the number that they make is below 65,536.
-use native.Mathlib.Omega.{arith}
+-- src/decode.rt:56:6
 use Prim.Native.Nat.{_+_}
 use borrow.Author.Needs.{needs}
+use native.Mathlib.Omega.{arith}
 use Rattle.description.proofs.decode.be16.Statement.{statement}
 use Rattle.description.proofs.decode.be16.Tie as tie
-use Rattle.description.proofs.decode.be16.Reads as reads
-use Rattle.description.proofs.decode.be16.Lts as lts
 
 -- src/decode.rt:56:6
 shared-slice-read-result : tie.Need-shared-slice-read-result
@@ -33,7 +32,9 @@ cast-result-2 c = omega (arith, c .shared-slice-known2 .given (c .before .before
 
 -- src/decode.rt:56:5
 add-result-2 : tie.Need-add-result-2
-add-result-2 c = omega (arith, c .before .shared-slice-known .given (c .before .before .args .i), c .shared-slice-known2 .given (c .before .before .args .i + 1))
+add-result-2 c =
+    let i = c .before .before .args .i in
+    omega (arith, c .before .shared-slice-known .given i, c .shared-slice-known2 .given (i + 1))
 
 -- src/decode.rt:52:1
 returns : tie.Need-returns

@@ -1,11 +1,11 @@
 -- The edges from i on hold a clash exactly when all of them do.
-use borrow.Author.Needs.{needs}
-use mathlib.Core.Path.{_≡_, refl, sym, _∙_}
 use Prim.Native.Nat.{_≤_, _-_}
-use native.Mathlib.Omega.{arith}
+use borrow.Author.Needs.{needs}
 use lib.ListN.{length, drop}
-use Rattle.sequences.specs.Lists.{any}
+use mathlib.Core.Path.{_≡_, refl, sym, _∙_}
+use native.Mathlib.Omega.{arith}
 use Rattle.sequences.proofs.Loops.{any-hit, any-miss, any-end, told}
+use Rattle.sequences.specs.Lists.{any}
 use Rattle.description.specs.Format.{clash, noEdge}
 use Rattle.description.specs.Meaning.{describes}
 use Rattle.description.proofs.decode.clashes_with_any.Statement.{statement}
@@ -34,7 +34,9 @@ returns : tie.Need-returns Inv-loop μ-loop
 returns c =
     let at = c .before .before .before .before in
     let start = at .before .before .args in
-    sym (at .loop .inv .2 ∙ any-hit (clash (start .e)) (describes (start .w) .edges) noEdge (at .loop .i) (omega arith) (told (clash (start .e)) (c .before .before .edge-at .ensures) (c .before .clashes .ensures) (c .if1 .taken)))
+    let es = describes (start .w .now) .edges in
+    let hit = told (clash (start .e)) (c .before .before .edge-at .ensures) (c .before .clashes .ensures) (c .if1 .taken) in
+    sym (at .loop .inv .2 ∙ any-hit (clash (start .e)) es noEdge (at .loop .i) (omega arith) hit)
 
 add-i : tie.Need-add-i Inv-loop μ-loop
 add-i c = search needs
@@ -45,16 +47,15 @@ loop-less c = search needs
 loop-again : tie.Need-loop-again Inv-loop μ-loop
 loop-again c =
     let at = c .before .before .before .before in
-    let start = at .before .before .args in (
-      search needs,
-      at .loop .inv .1,
-      at .loop .inv .2 ∙ any-miss (clash (start .e)) (describes (start .w) .edges) noEdge (at .loop .i) (omega arith) (told (clash (start .e)) (c .before .before .edge-at .ensures) (c .before .clashes .ensures) (c .if1 .left)),
-    )
+    let start = at .before .before .args in
+    let es = describes (start .w .now) .edges in
+    let miss = told (clash (start .e)) (c .before .before .edge-at .ensures) (c .before .clashes .ensures) (c .if1 .left) in
+    (search needs, at .loop .inv .1, at .loop .inv .2 ∙ any-miss (clash (start .e)) es noEdge (at .loop .i) (omega arith) miss)
 
 returns-2 : tie.Need-returns-2 Inv-loop μ-loop
 returns-2 c =
     let start = c .before .before .before .args in
-    sym (c .before .loop .inv .2 ∙ any-end (describes (start .w) .edges) (c .before .loop .i) (omega arith) (clash (start .e)))
+    sym (c .before .loop .inv .2 ∙ any-end (describes (start .w .now) .edges) (c .before .loop .i) (omega arith) (clash (start .e)))
 
 pub clashes-with-any-spec : {M : Type 1} → statement M
 clashes-with-any-spec =

@@ -1,14 +1,14 @@
 -- Each return by the tests that led there.
+use Prim.Native.Nat.{_≤_, _<_}
+use borrow.Author.Needs.{needs}
+use borrow.Author.Tests.{lt-ltb, le-ltb}
+use lib.ListN.{length, getD}
 use mathlib.Core.Path.{refl, ap, _∙_}
 use native.Mathlib.Omega.{arith}
-use Prim.Native.Nat.{_≤_, _<_}
-use lib.ListN.{length, getD}
-use borrow.Author.Tests.{lt-ltb, le-ltb}
-use Rattle.description.proofs.Steps.{stops, goes}
-use Rattle.description.specs.Meaning.{describes}
-use Rattle.description.specs.Format.{pinAt, isPinned, block, withPin}
 use Rattle.sequences.proofs.Loops.{told}
-use borrow.Author.Needs.{needs}
+use Rattle.description.proofs.Steps.{stops, goes}
+use Rattle.description.specs.Format.{pinAt, isPinned, block, withPin}
+use Rattle.description.specs.Meaning.{describes}
 use Rattle.description.proofs.decode.pin_step.Statement.{statement}
 use Rattle.description.proofs.decode.pin_step.Tie as tie
 
@@ -16,7 +16,10 @@ faulty-requires : tie.Need-faulty-requires
 faulty-requires c κs = search needs
 
 returns : tie.Need-returns
-returns c = stops (c .before .before .before .args .s .now) (pinAt (c .before .before .before .args .s .now) (describes (c .before .before .before .args .w))) (c .faulty .ensures) refl (simp (lt-ltb _ _ (c .before .if1 .taken)))
+returns c =
+    let a = c .before .before .before .args in
+    let s = a .s .now in
+    stops s (pinAt s (describes (a .w .now))) (c .faulty .ensures) refl (simp (lt-ltb _ _ (c .before .if1 .taken)))
 
 shared-slice-read-wide : tie.Need-shared-slice-read-wide
 shared-slice-read-wide c = search needs
@@ -34,7 +37,12 @@ faulty-requires-2 : tie.Need-faulty-requires-2
 faulty-requires-2 c κs = search needs
 
 returns-2 : tie.Need-returns-2
-returns-2 c = stops (c .before .before .before .before .before .before .before .before .args .s .now) (pinAt (c .before .before .before .before .before .before .before .before .args .s .now) (describes (c .before .before .before .before .before .before .before .before .args .w))) (c .faulty2 .ensures) refl (simp (le-ltb _ _ (c .before .before .before .before .before .before .if1 .left), (let h : length ((describes (c .before .before .before .before .before .before .before .before .args .w)) .blocks) ≤ getD (c .before .before .before .before .before .before .before .before .args .s .now) 1 0 = omega arith in le-ltb _ _ h)))
+returns-2 c =
+    let long = c .before .before .before .before .before .before .before in
+    let s = long .before .before .args .s .now in
+    let d = describes (long .before .before .args .w .now) in
+    let past : length (d .blocks) ≤ getD s 1 0 = omega arith in
+    stops s (pinAt s d) (c .faulty2 .ensures) refl (simp (le-ltb _ _ (long .if1 .left), le-ltb _ _ past))
 
 cloud-count-requires : tie.Need-cloud-count-requires
 cloud-count-requires c κs = search needs
@@ -46,7 +54,13 @@ faulty-requires-3 : tie.Need-faulty-requires-3
 faulty-requires-3 c κs = search needs
 
 returns-3 : tie.Need-returns-3
-returns-3 c = stops (c .before .before .before .before .before .before .before .before .before .before .before .args .s .now) (pinAt (c .before .before .before .before .before .before .before .before .before .before .before .args .s .now) (describes (c .before .before .before .before .before .before .before .before .before .before .before .args .w))) (c .faulty3 .ensures) refl (simp (le-ltb _ _ (c .before .before .before .before .before .before .before .before .before .if1 .left), (let h : getD (c .before .before .before .before .before .before .before .before .before .before .before .args .s .now) 1 0 < length ((describes (c .before .before .before .before .before .before .before .before .before .before .before .args .w)) .blocks) = omega arith in lt-ltb _ _ h), (let h : length ((describes (c .before .before .before .before .before .before .before .before .before .before .before .args .w)) .clouds) ≤ getD (c .before .before .before .before .before .before .before .before .before .before .before .args .s .now) 2 0 = omega arith in le-ltb _ _ h)))
+returns-3 c =
+    let long = c .before .before .before .before .before .before .before .before .before .before .before in
+    let s = long .before .before .args .s .now in
+    let d = describes (long .before .before .args .w .now) in
+    let known : getD s 1 0 < length (d .blocks) = omega arith in
+    let past : length (d .clouds) ≤ getD s 2 0 = omega arith in
+    stops s (pinAt s d) (c .faulty3 .ensures) refl (simp (le-ltb _ _ (long .if1 .left), lt-ltb _ _ known, le-ltb _ _ past))
 
 block-at-requires : tie.Need-block-at-requires
 block-at-requires c κs = search needs
@@ -58,16 +72,51 @@ faulty-requires-4 : tie.Need-faulty-requires-4
 faulty-requires-4 c κs = search needs
 
 returns-4 : tie.Need-returns-4
-returns-4 c = stops (c .before .before .before .before .before .before .before .before .before .before .before .before .before .before .args .s .now) (pinAt (c .before .before .before .before .before .before .before .before .before .before .before .before .before .before .args .s .now) (describes (c .before .before .before .before .before .before .before .before .before .before .before .before .before .before .args .w))) (c .faulty4 .ensures) refl (simp (le-ltb _ _ (c .before .before .before .before .before .before .before .before .before .before .before .before .if1 .left), (let h : getD (c .before .before .before .before .before .before .before .before .before .before .before .before .before .before .args .s .now) 1 0 < length ((describes (c .before .before .before .before .before .before .before .before .before .before .before .before .before .before .args .w)) .blocks) = omega arith in lt-ltb _ _ h), (let h : getD (c .before .before .before .before .before .before .before .before .before .before .before .before .before .before .args .s .now) 2 0 < length ((describes (c .before .before .before .before .before .before .before .before .before .before .before .before .before .before .args .w)) .clouds) = omega arith in lt-ltb _ _ h), told (λ n. isPinned (block (describes (c .before .before .before .before .before .before .before .before .before .before .before .before .before .before .args .w)) n .pin)) (c .before .before .before .before .before .before .before .before .before .before .wide .ensures) (c .before .before .is-pinned .ensures ∙ ap (λ b. isPinned (b .pin)) (c .before .before .before .block-at .ensures)) (c .before .if4 .taken)))
+returns-4 c =
+    let pinned = c .before in
+    let clouds = pinned .before .before .before .before in
+    let blocks = clouds .before .before .before .before in
+    let wide = blocks .before .before .before .before .wide in
+    let long = blocks .before .before .before .before .before .before in
+    let s = long .before .before .args .s .now in
+    let d = describes (long .before .before .args .w .now) in
+    let known : getD s 1 0 < length (d .blocks) = omega (arith, blocks .if2 .left, blocks .before .block-count .ensures .0, wide .ensures) in
+    let count = clouds .before .before .cloud-count .ensures in
+    let there : getD s 2 0 < length (d .clouds) = omega (arith, clouds .if3 .left, count .0, clouds .before .wide2 .ensures) in
+    let answer = pinned .before .is-pinned .ensures ∙ ap (λ b. isPinned (b .pin)) (pinned .before .before .block-at .ensures) in
+    stops s (pinAt s d) (c .faulty4 .ensures) refl (simp (
+      le-ltb _ _ (long .if1 .left),
+      lt-ltb _ _ known,
+      lt-ltb _ _ there,
+      told (λ n. isPinned (block d n .pin)) (wide .ensures) answer (pinned .if4 .taken),
+    ))
 
-with-pin-requires : tie.Need-with-pin-requires
-with-pin-requires c κs = search needs
+put-pin-requires : tie.Need-put-pin-requires
+put-pin-requires c κs = search needs
 
 taken-requires : tie.Need-taken-requires
 taken-requires c κs = search needs
 
 returns-5 : tie.Need-returns-5
-returns-5 c = goes (c .before .before .before .before .before .before .before .before .before .before .before .before .before .before .before .args .s .now) (pinAt (c .before .before .before .before .before .before .before .before .before .before .before .before .before .before .before .args .s .now) (describes (c .before .before .before .before .before .before .before .before .before .before .before .before .before .before .before .args .w))) (c .taken .ensures) refl (simp (le-ltb _ _ (c .before .before .before .before .before .before .before .before .before .before .before .before .before .if1 .left), (let h : getD (c .before .before .before .before .before .before .before .before .before .before .before .before .before .before .before .args .s .now) 1 0 < length ((describes (c .before .before .before .before .before .before .before .before .before .before .before .before .before .before .before .args .w)) .blocks) = omega arith in lt-ltb _ _ h), (let h : getD (c .before .before .before .before .before .before .before .before .before .before .before .before .before .before .before .args .s .now) 2 0 < length ((describes (c .before .before .before .before .before .before .before .before .before .before .before .before .before .before .before .args .w)) .clouds) = omega arith in lt-ltb _ _ h), told (λ n. isPinned (block (describes (c .before .before .before .before .before .before .before .before .before .before .before .before .before .before .before .args .w)) n .pin)) (c .before .before .before .before .before .before .before .before .before .before .before .wide .ensures) (c .before .before .before .is-pinned .ensures ∙ ap (λ b. isPinned (b .pin)) (c .before .before .before .before .block-at .ensures)) (c .before .before .if4 .left))) (c .before .with-pin .ensures ∙ ap (λ n. withPin (describes (c .before .before .before .before .before .before .before .before .before .before .before .before .before .before .before .args .w)) n (getD (c .before .before .before .before .before .before .before .before .before .before .before .before .before .before .before .args .s .now) 2 0)) (c .before .before .before .before .before .before .before .before .before .before .before .wide .ensures))
+returns-5 c =
+    let free = c .before .before .before in
+    let clouds = free .before .before .before .before in
+    let blocks = clouds .before .before .before .before in
+    let wide = blocks .before .before .before .before .wide in
+    let long = blocks .before .before .before .before .before .before in
+    let s = long .before .before .args .s .now in
+    let d = describes (long .before .before .args .w .now) in
+    let known : getD s 1 0 < length (d .blocks) = omega (arith, blocks .if2 .left, blocks .before .block-count .ensures .0, wide .ensures) in
+    let count = clouds .before .before .cloud-count .ensures in
+    let there : getD s 2 0 < length (d .clouds) = omega (arith, clouds .if3 .left, count .0, clouds .before .wide2 .ensures) in
+    let answer = free .before .is-pinned .ensures ∙ ap (λ b. isPinned (b .pin)) (free .before .before .block-at .ensures) in
+    goes s (pinAt s d) (c .taken .ensures) refl (simp (
+      le-ltb _ _ (long .if1 .left),
+      lt-ltb _ _ known,
+      lt-ltb _ _ there,
+      told (λ n. isPinned (block d n .pin)) (wide .ensures) answer (free .if4 .left),
+    ))
+    (c .before .put-pin .ensures ∙ ap (λ n. withPin d n (getD s 2 0)) (wide .ensures))
 
 pub pin-step-spec : {M : Type 1} → statement M
 pin-step-spec =
@@ -89,6 +138,6 @@ pin-step-spec =
     is-pinned-requires
     faulty-requires-4
     returns-4
-    with-pin-requires
+    put-pin-requires
     taken-requires
     returns-5)

@@ -1,20 +1,25 @@
--- What counts is the lesser of the count and the array's length.
+-- What counts is the lesser of the count and the number of records.
+use Prim.Native.Nat.{min}
+use borrow.Author.Needs.{needs}
+use mathlib.Core.Path.{sym, ap, _∙_}
 use native.Mathlib.Omega.{arith}
-use lib.ListN.{length-map}
+use Rattle.description.proofs.Puts.{how-many}
 use Rattle.description.specs.Meaning.{describes}
-use Rattle.description.proofs.Arrays.{count-short, count-full}
+use Rattle.description.specs.Layout.{mostEdges, firstEdge, counts, recordAt, toEdge}
 use Rattle.description.proofs.workflow.edge_count.Statement.{statement}
 use Rattle.description.proofs.workflow.edge_count.Tie as tie
+
+record-at-requires : tie.Need-record-at-requires
+record-at-requires c κs = search needs
+
+at-most-requires : tie.Need-at-most-requires
+at-most-requires c κs = search needs
 
 returns : tie.Need-returns
 unfolding describes
 returns c =
-    (count-short _ (c .before .args .w .edges) _ (simp length-map at (c .before .good .0 .1 .1 .1 .1 .1 .1 .0 .1 .0 .1)) (c .if1 .taken), omega arith)
-
-returns-2 : tie.Need-returns-2
-unfolding describes
-returns-2 c =
-    (count-full _ (c .before .args .w .edges) _ (simp length-map at (c .before .good .0 .1 .1 .1 .1 .1 .1 .0 .1 .0 .1)) (c .if1 .left), omega arith)
+    let e = c .at-most .ensures ∙ ap (λ x. min (x .c) 32) (c .before .record-at .ensures) in
+    (e ∙ sym (how-many toEdge firstEdge mostEdges (recordAt (c .before .before .args .w .now) counts .c) (c .before .before .args .w .now)), omega arith)
 
 pub edge-count-spec : {M : Type 1} → statement M
-edge-count-spec = tie.close (tie.spec returns returns-2)
+edge-count-spec = tie.close (tie.spec record-at-requires at-most-requires returns)

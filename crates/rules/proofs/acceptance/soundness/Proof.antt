@@ -4,8 +4,9 @@ use native.Mathlib.Omega.{arith}
 use Prim.Native.Nat.{_≤_, _<_}
 use borrow.Author.Tests.{lt-ltb, le-ltb}
 use Rattle.security.specs.Answers.{foundIn}
-use Rattle.description.specs.Meaning.{describes, outcomeOf}
+use Rattle.description.specs.Meaning.{describes}
 use Rattle.security.specs.Soundness.{sound, count}
+use Rattle.rules.specs.Answers.{admissionOf}
 use borrow.Author.Needs.{needs}
 use Rattle.rules.proofs.acceptance.soundness.Statement.{statement}
 use Rattle.rules.proofs.acceptance.soundness.Tie as tie
@@ -21,7 +22,10 @@ refused-requires c κs = search needs
 
 returns : tie.Need-returns
 unfolding sound
-returns c = ap (λ o. outcomeOf o (describes (c .before .before .before .before .before .args .w))) (c .refused .ensures) ∙ (simp (sym (c .before .before .before .before .first-breaking-rule2 .ensures) ∙ ap foundIn (c .before .before .block .given .1)))
+returns c =
+    let d = describes (c .before .before .before .before .before .args .w .now) in
+    let rule2 = sym (c .before .before .before .before .first-breaking-rule2 .ensures) ∙ ap foundIn (c .before .before .block .given .1) in
+    ap (λ o. admissionOf o d) (c .refused .ensures) ∙ simp rule2
 
 enum-told : tie.Need-enum-told
 enum-told c = search needs
@@ -37,7 +41,12 @@ refused-requires-2 c κs = search needs
 
 returns-2 : tie.Need-returns-2
 unfolding sound
-returns-2 c = ap (λ o. outcomeOf o (describes (c .before .before .before .before .before .before .before .before .args .w))) (c .refused2 .ensures) ∙ (simp ((sym (c .before .before .before .before .before .before .before .first-breaking-rule2 .ensures) ∙ ap foundIn (c .before .before .before .before .before .enum-told .given .1)), (sym (c .before .before .before .before .first-breaking .ensures) ∙ ap foundIn (c .before .before .read .given .1))))
+returns-2 c =
+    let two = c .before .before .before .before .before .before .before in
+    let d = describes (two .before .args .w .now) in
+    let rule2 = sym (two .first-breaking-rule2 .ensures) ∙ ap foundIn (c .before .before .before .before .before .enum-told .given .1) in
+    let rule3 = sym (c .before .before .before .before .first-breaking .ensures) ∙ ap foundIn (c .before .before .read .given .1) in
+    ap (λ o. admissionOf o d) (c .refused2 .ensures) ∙ simp (rule2, rule3)
 
 enum-told-2 : tie.Need-enum-told-2
 enum-told-2 c = search needs
@@ -53,7 +62,14 @@ refused-requires-3 c κs = search needs
 
 returns-3 : tie.Need-returns-3
 unfolding sound
-returns-3 c = ap (λ o. outcomeOf o (describes (c .before .before .before .before .before .before .before .before .before .before .before .args .w))) (c .refused3 .ensures) ∙ (simp ((sym (c .before .before .before .before .before .before .before .before .before .before .first-breaking-rule2 .ensures) ∙ ap foundIn (c .before .before .before .before .before .before .before .before .enum-told .given .1)), (sym (c .before .before .before .before .before .before .before .first-breaking .ensures) ∙ ap foundIn (c .before .before .before .before .before .enum-told2 .given .1)), (sym (c .before .before .before .before .first-breaking2 .ensures) ∙ ap foundIn (c .before .before .write .given .1))))
+returns-3 c =
+    let three = c .before .before .before .before .before .before .before in
+    let two = three .before .before .before in
+    let d = describes (two .before .args .w .now) in
+    let rule2 = sym (two .first-breaking-rule2 .ensures) ∙ ap foundIn (three .before .enum-told .given .1) in
+    let rule3 = sym (three .first-breaking .ensures) ∙ ap foundIn (c .before .before .before .before .before .enum-told2 .given .1) in
+    let rule4 = sym (c .before .before .before .before .first-breaking2 .ensures) ∙ ap foundIn (c .before .before .write .given .1) in
+    ap (λ o. admissionOf o d) (c .refused3 .ensures) ∙ simp (rule2, rule3, rule4)
 
 enum-told-3 : tie.Need-enum-told-3
 enum-told-3 c = search needs
@@ -66,11 +82,30 @@ refused-requires-4 c κs = search needs
 
 returns-4 : tie.Need-returns-4
 unfolding sound
-returns-4 c = ap (λ o. outcomeOf o (describes (c .before .before .before .before .before .before .before .before .before .before .before .before .args .w))) (c .refused4 .ensures) ∙ (simp ((sym (c .before .before .before .before .before .before .before .before .before .before .before .first-breaking-rule2 .ensures) ∙ ap foundIn (c .before .before .before .before .before .before .before .before .before .enum-told .given .1)), (sym (c .before .before .before .before .before .before .before .before .first-breaking .ensures) ∙ ap foundIn (c .before .before .before .before .before .before .enum-told2 .given .1)), (sym (c .before .before .before .before .before .first-breaking2 .ensures) ∙ ap foundIn (c .before .before .before .enum-told3 .given .1)), (let h : 65536 < count (describes (c .before .before .before .before .before .before .before .before .before .before .before .before .args .w)) = omega arith in lt-ltb _ _ h)))
+returns-4 c =
+    let four = c .before .before .before .before .before in
+    let three = four .before .before .before in
+    let two = three .before .before .before in
+    let d = describes (two .before .args .w .now) in
+    let rule2 = sym (two .first-breaking-rule2 .ensures) ∙ ap foundIn (three .before .enum-told .given .1) in
+    let rule3 = sym (three .first-breaking .ensures) ∙ ap foundIn (four .before .enum-told2 .given .1) in
+    let rule4 = sym (four .first-breaking2 .ensures) ∙ ap foundIn (c .before .before .before .enum-told3 .given .1) in
+    let many : 65536 < count d = omega (arith, c .before .before .candidate-count .ensures) in
+    ap (λ o. admissionOf o d) (c .refused4 .ensures) ∙ simp (rule2, rule3, rule4, lt-ltb 65536 (count d) many)
 
 returns-5 : tie.Need-returns-5
 unfolding sound
-returns-5 c = simp ((sym (c .before .before .before .before .before .before .before .before .before .before .first-breaking-rule2 .ensures) ∙ ap foundIn (c .before .before .before .before .before .before .before .before .enum-told .given .1)), (sym (c .before .before .before .before .before .before .before .first-breaking .ensures) ∙ ap foundIn (c .before .before .before .before .before .enum-told2 .given .1)), (sym (c .before .before .before .before .first-breaking2 .ensures) ∙ ap foundIn (c .before .before .enum-told3 .given .1)), (let h : count (describes (c .before .before .before .before .before .before .before .before .before .before .before .args .w)) ≤ 65536 = omega arith in le-ltb _ _ h))
+returns-5 c =
+    let four = c .before .before .before .before in
+    let three = four .before .before .before in
+    let two = three .before .before .before in
+    let d = describes (two .before .args .w .now) in
+    let rule2 = sym (two .first-breaking-rule2 .ensures) ∙ ap foundIn (three .before .enum-told .given .1) in
+    let rule3 = sym (three .first-breaking .ensures) ∙ ap foundIn (four .before .enum-told2 .given .1) in
+    let rule4 = sym (four .first-breaking2 .ensures) ∙ ap foundIn (c .before .before .enum-told3 .given .1) in
+    let counted = c .before .candidate-count .ensures in
+    let few : count d ≤ 65536 = omega (arith, counted) in
+    simp (rule2, rule3, rule4, le-ltb 65536 (count d) few, counted)
 
 pub soundness-spec : {M : Type 1} → statement M
 soundness-spec =

@@ -36,7 +36,18 @@ covers-requires c κs = search needs
 
 returns-2 : tie.Need-returns-2
 unfolding exposes
-returns-2 c = simp ((sym (c .before .before .before .before .before .before .before .before .moves .ensures) ∙ not-false _ (c .before .before .before .before .before .before .before .if1 .left)), c .covers .ensures, c .before .before .before .cloud-at .ensures, c .before .block-at .ensures, c .before .before .before .before .wide2 .ensures, c .before .before .before .before .before .cloud-of .ensures, c .before .before .before .before .before .before .wide .ensures, c .before .before .wide3 .ensures)
+returns-2 c =
+    let moved = c .before .before .before .before .before .before .before in
+    simp (
+      sym (moved .before .moves .ensures) ∙ not-false _ (moved .if1 .left),
+      c .covers .ensures,
+      c .before .before .before .cloud-at .ensures,
+      c .before .block-at .ensures,
+      c .before .before .before .before .wide2 .ensures,
+      c .before .before .before .before .before .cloud-of .ensures,
+      c .before .before .before .before .before .before .wide .ensures,
+      c .before .before .wide3 .ensures,
+    )
 
 pub exposes-spec : {M : Type 1} → statement M
 exposes-spec =

@@ -14,7 +14,9 @@ use Rattle.security.proofs.placements.first_bad_position.Statement.{sta
 use Rattle.security.proofs.placements.first_bad_position.Tie as tie
 
 abbrev Inv-loop : tie.InvT-loop
-Inv-loop w placement b₀ b = (b ≤ 16) × (first (badPosition (describes w) placement) positions ≡ firstFrom b (badPosition (describes w) placement) (drop b positions))
+Inv-loop w placement b₀ b =
+    let bad = badPosition (describes w) placement in
+    (b ≤ 16) × (first bad positions ≡ firstFrom b bad (drop b positions))
 
 abbrev μ-loop : tie.MeasureT-loop
 μ-loop w placement b₀ b = 16 - b
@@ -26,7 +28,12 @@ is-bad-requires : tie.Need-is-bad-requires Inv-loop μ-loop
 is-bad-requires c κs = search needs
 
 returns : tie.Need-returns Inv-loop μ-loop
-returns c = sym (c .before .before .before .loop .inv .1 ∙ first-hit (badPosition (describes (c .before .before .before .before .args .w)) (c .before .before .before .before .args .placement)) positions 0 (c .before .before .before .loop .b) (omega arith) (told (badPosition (describes (c .before .before .before .before .args .w)) (c .before .before .before .before .args .placement)) (sym (getD-below 16 (c .before .before .before .loop .b) 0 (omega arith))) (c .before .is-bad .ensures) (c .if1 .taken)))
+returns c =
+    let at = c .before .before .before in
+    let a = at .before .args in
+    let bad = badPosition (describes (a .w .now)) (a .placement) in
+    let hit = told bad (sym (getD-below 16 (at .loop .b) 0 (omega arith))) (c .before .is-bad .ensures) (c .if1 .taken) in
+    sym (at .loop .inv .1 ∙ first-hit bad positions 0 (at .loop .b) (omega arith) hit)
 
 add-b : tie.Need-add-b Inv-loop μ-loop
 add-b c = search needs
@@ -35,10 +42,18 @@ loop-less : tie.Need-loop-less Inv-loop μ-loop
 loop-less c = search needs
 
 loop-again : tie.Need-loop-again Inv-loop μ-loop
-loop-again c = (search needs, c .before .before .before .loop .inv .1 ∙ first-miss (badPosition (describes (c .before .before .before .before .args .w)) (c .before .before .before .before .args .placement)) positions 0 (c .before .before .before .loop .b) (omega arith) (told (badPosition (describes (c .before .before .before .before .args .w)) (c .before .before .before .before .args .placement)) (sym (getD-below 16 (c .before .before .before .loop .b) 0 (omega arith))) (c .before .is-bad .ensures) (c .if1 .left)))
+loop-again c =
+    let at = c .before .before .before in
+    let a = at .before .args in
+    let bad = badPosition (describes (a .w .now)) (a .placement) in
+    let miss = told bad (sym (getD-below 16 (at .loop .b) 0 (omega arith))) (c .before .is-bad .ensures) (c .if1 .left) in
+    (search needs, at .loop .inv .1 ∙ first-miss bad positions 0 (at .loop .b) (omega arith) miss)
 
 returns-2 : tie.Need-returns-2 Inv-loop μ-loop
-returns-2 c = sym (c .before .loop .inv .1 ∙ first-end positions (c .before .loop .b) (omega arith) (badPosition (describes (c .before .before .args .w)) (c .before .before .args .placement)))
+returns-2 c =
+    let at = c .before in
+    let a = at .before .args in
+    sym (at .loop .inv .1 ∙ first-end positions (at .loop .b) (omega arith) (badPosition (describes (a .w .now)) (a .placement)))
 
 pub first-bad-position-spec : {M : Type 1} → statement M
 first-bad-position-spec =

@@ -13,7 +13,9 @@ use Rattle.security.proofs.placements.first_breaking.Statement.{stateme
 use Rattle.security.proofs.placements.first_breaking.Tie as tie
 
 abbrev Inv-loop : tie.InvT-loop
-Inv-loop w placement rule n i₀ i = (i ≤ n) × (n ≡ length (describes w .edges)) × (first (breaksRule rule (describes w) placement) (describes w .edges) ≡ firstFrom i (breaksRule rule (describes w) placement) (drop i (describes w .edges)))
+Inv-loop w placement rule n i₀ i =
+    let breaks = breaksRule rule (describes w) placement in
+    (i ≤ n) × (n ≡ length (describes w .edges)) × (first breaks (describes w .edges) ≡ firstFrom i breaks (drop i (describes w .edges)))
 
 abbrev μ-loop : tie.MeasureT-loop
 μ-loop w placement rule n i₀ i = n - i
@@ -31,7 +33,13 @@ breaks-requires : tie.Need-breaks-requires Inv-loop μ-loop
 breaks-requires c κs = search needs
 
 returns : tie.Need-returns Inv-loop μ-loop
-returns c = sym (c .before .before .before .before .loop .inv .2 ∙ first-hit (breaksRule (c .before .before .before .before .before .before .args .rule) (describes (c .before .before .before .before .before .before .args .w)) (c .before .before .before .before .before .before .args .placement)) (describes (c .before .before .before .before .before .before .args .w) .edges) noEdge (c .before .before .before .before .loop .i) (omega arith) (told (breaksRule (c .before .before .before .before .before .before .args .rule) (describes (c .before .before .before .before .before .before .args .w)) (c .before .before .before .before .before .before .args .placement)) (c .before .before .edge-at .ensures) (c .before .breaks .ensures) (c .if1 .taken)))
+returns c =
+    let at = c .before .before .before .before in
+    let a = at .before .before .args in
+    let d = describes (a .w .now) in
+    let breaks = breaksRule (a .rule) d (a .placement) in
+    let hit = told breaks (c .before .before .edge-at .ensures) (c .before .breaks .ensures) (c .if1 .taken) in
+    sym (at .loop .inv .2 ∙ first-hit breaks (d .edges) noEdge (at .loop .i) (omega arith) hit)
 
 add-i : tie.Need-add-i Inv-loop μ-loop
 add-i c = search needs
@@ -40,10 +48,20 @@ loop-less : tie.Need-loop-less Inv-loop μ-loop
 loop-less c = search needs
 
 loop-again : tie.Need-loop-again Inv-loop μ-loop
-loop-again c = (search needs, c .before .before .before .before .loop .inv .1, c .before .before .before .before .loop .inv .2 ∙ first-miss (breaksRule (c .before .before .before .before .before .before .args .rule) (describes (c .before .before .before .before .before .before .args .w)) (c .before .before .before .before .before .before .args .placement)) (describes (c .before .before .before .before .before .before .args .w) .edges) noEdge (c .before .before .before .before .loop .i) (omega arith) (told (breaksRule (c .before .before .before .before .before .before .args .rule) (describes (c .before .before .before .before .before .before .args .w)) (c .before .before .before .before .before .before .args .placement)) (c .before .before .edge-at .ensures) (c .before .breaks .ensures) (c .if1 .left)))
+loop-again c =
+    let at = c .before .before .before .before in
+    let a = at .before .before .args in
+    let d = describes (a .w .now) in
+    let breaks = breaksRule (a .rule) d (a .placement) in
+    let miss = told breaks (c .before .before .edge-at .ensures) (c .before .breaks .ensures) (c .if1 .left) in
+    (search needs, at .loop .inv .1, at .loop .inv .2 ∙ first-miss breaks (d .edges) noEdge (at .loop .i) (omega arith) miss)
 
 returns-2 : tie.Need-returns-2 Inv-loop μ-loop
-returns-2 c = sym (c .before .loop .inv .2 ∙ first-end (describes (c .before .before .before .args .w) .edges) (c .before .loop .i) (omega arith) (breaksRule (c .before .before .before .args .rule) (describes (c .before .before .before .args .w)) (c .before .before .before .args .placement)))
+returns-2 c =
+    let at = c .before in
+    let a = at .before .before .args in
+    let d = describes (a .w .now) in
+    sym (at .loop .inv .2 ∙ first-end (d .edges) (at .loop .i) (omega arith) (breaksRule (a .rule) d (a .placement)))
 
 pub first-breaking-spec : {M : Type 1} → statement M
 first-breaking-spec =

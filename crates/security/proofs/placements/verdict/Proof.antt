@@ -17,7 +17,9 @@ unfit-requires c κs = search needs
 
 returns : tie.Need-returns
 unfolding judge
-returns c = ap judgeAnswer (c .unfit .ensures) ∙ (simp (sym (c .before .before .before .before .first-bad-position .ensures) ∙ ap foundIn (c .before .before .position .given .1)))
+returns c =
+    let position = sym (c .before .before .before .before .first-bad-position .ensures) ∙ ap foundIn (c .before .before .position .given .1) in
+    ap judgeAnswer (c .unfit .ensures) ∙ simp position
 
 enum-told : tie.Need-enum-told
 enum-told c = search needs
@@ -33,7 +35,11 @@ unfit-requires-2 c κs = search needs
 
 returns-2 : tie.Need-returns-2
 unfolding judge
-returns-2 c = ap judgeAnswer (c .unfit2 .ensures) ∙ (simp ((sym (c .before .before .before .before .before .before .before .first-bad-position .ensures) ∙ ap foundIn (c .before .before .before .before .before .enum-told .given .1)), (sym (c .before .before .before .before .first-breaking .ensures) ∙ ap foundIn (c .before .before .read .given .1))))
+returns-2 c =
+    let fine = c .before .before .before .before .before in
+    let position = sym (fine .before .before .first-bad-position .ensures) ∙ ap foundIn (fine .enum-told .given .1) in
+    let read = sym (c .before .before .before .before .first-breaking .ensures) ∙ ap foundIn (c .before .before .read .given .1) in
+    ap judgeAnswer (c .unfit2 .ensures) ∙ simp (position, read)
 
 enum-told-2 : tie.Need-enum-told-2
 enum-told-2 c = search needs
@@ -49,14 +55,26 @@ unfit-requires-3 c κs = search needs
 
 returns-3 : tie.Need-returns-3
 unfolding judge
-returns-3 c = ap judgeAnswer (c .unfit3 .ensures) ∙ (simp ((sym (c .before .before .before .before .before .before .before .before .before .before .first-bad-position .ensures) ∙ ap foundIn (c .before .before .before .before .before .before .before .before .enum-told .given .1)), (sym (c .before .before .before .before .before .before .before .first-breaking .ensures) ∙ ap foundIn (c .before .before .before .before .before .enum-told2 .given .1)), (sym (c .before .before .before .before .first-breaking2 .ensures) ∙ ap foundIn (c .before .before .write .given .1))))
+returns-3 c =
+    let unread = c .before .before .before .before .before in
+    let fine = unread .before .before .before in
+    let position = sym (fine .before .before .first-bad-position .ensures) ∙ ap foundIn (fine .enum-told .given .1) in
+    let read = sym (unread .before .before .first-breaking .ensures) ∙ ap foundIn (unread .enum-told2 .given .1) in
+    let write = sym (c .before .before .before .before .first-breaking2 .ensures) ∙ ap foundIn (c .before .before .write .given .1) in
+    ap judgeAnswer (c .unfit3 .ensures) ∙ simp (position, read, write)
 
 enum-told-3 : tie.Need-enum-told-3
 enum-told-3 c = search needs
 
 returns-4 : tie.Need-returns-4
 unfolding judge
-returns-4 c = simp ((sym (c .before .before .before .before .before .before .before .before .first-bad-position .ensures) ∙ ap foundIn (c .before .before .before .before .before .before .enum-told .given .1)), (sym (c .before .before .before .before .before .first-breaking .ensures) ∙ ap foundIn (c .before .before .before .enum-told2 .given .1)), (sym (c .before .before .first-breaking2 .ensures) ∙ ap foundIn (c .enum-told3 .given .1)))
+returns-4 c =
+    let unread = c .before .before .before in
+    let fine = unread .before .before .before in
+    let position = sym (fine .before .before .first-bad-position .ensures) ∙ ap foundIn (fine .enum-told .given .1) in
+    let read = sym (unread .before .before .first-breaking .ensures) ∙ ap foundIn (unread .enum-told2 .given .1) in
+    let write = sym (c .before .before .first-breaking2 .ensures) ∙ ap foundIn (c .enum-told3 .given .1) in
+    simp (position, read, write)
 
 pub verdict-spec : {M : Type 1} → statement M
 verdict-spec =

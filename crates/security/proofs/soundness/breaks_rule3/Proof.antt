@@ -32,7 +32,17 @@ covers-requires c κs = search needs
 
 returns-2 : tie.Need-returns-2
 unfolding breaks3
-returns-2 c = simp ((sym (c .before .before .before .before .before .before .before .is-write .ensures) ∙ c .before .before .before .before .before .before .if1 .left), c .covers .ensures, c .before .clearance-of .ensures, c .before .before .before .before .block-at .ensures, c .before .before .block-at2 .ensures, c .before .before .before .before .before .wide .ensures, c .before .before .before .wide2 .ensures)
+returns-2 c =
+    let read = c .before .before .before .before .before .before in
+    simp (
+      sym (read .before .is-write .ensures) ∙ read .if1 .left,
+      c .covers .ensures,
+      c .before .clearance-of .ensures,
+      c .before .before .before .before .block-at .ensures,
+      c .before .before .block-at2 .ensures,
+      c .before .before .before .before .before .wide .ensures,
+      c .before .before .before .wide2 .ensures,
+    )
 
 pub breaks-rule3-spec : {M : Type 1} → statement M
 breaks-rule3-spec =

@@ -30,7 +30,16 @@ covers-requires c κs = search needs
 
 returns-2 : tie.Need-returns-2
 unfolding breaks4
-returns-2 c = simp ((sym (c .before .before .before .before .before .before .is-write .ensures) ∙ not-false _ (c .before .before .before .before .before .if1 .left)), c .covers .ensures, c .before .before .before .block-at .ensures, c .before .block-at2 .ensures, c .before .before .before .before .wide .ensures, c .before .before .wide2 .ensures)
+returns-2 c =
+    let write = c .before .before .before .before .before in
+    simp (
+      sym (write .before .is-write .ensures) ∙ not-false _ (write .if1 .left),
+      c .covers .ensures,
+      c .before .before .before .block-at .ensures,
+      c .before .block-at2 .ensures,
+      c .before .before .before .before .wide .ensures,
+      c .before .before .wide2 .ensures,
+    )
 
 pub breaks-rule4-spec : {M : Type 1} → statement M
 breaks-rule4-spec =

@@ -1,40 +1,49 @@
 -- The product so far and the product from b on make the whole, and the product so far is at most 8 to the power b.
 use mathlib.Core.Path.{_≡_, sym, ap, _∙_}
-use native.Mathlib.Omega.{arith}
-use Prim.Native.Nat.{_≤_, _-_}
-use lib.ListN.{length, drop}
-use borrow.Author.Needs.{needs}
-use Rattle.description.specs.Meaning.{describes}
-use Prim.Native.Nat.{ℕ, _+_, _*_, _^_}
 use mathlib.Core.List.{map}
 use native.Mathlib.Nat.{one-mul, mul-one, mul-assoc, mul-le-mul, pow-suc, pow-le-pow-right}
 use native.Mathlib.Numerals.{add-one}
+use native.Mathlib.Omega.{arith}
+use Prim.Native.Nat.{ℕ, _+_, _-_, _*_, _^_, _≤_}
 use lib.Dec.{lit<}
+use lib.ListN.{length, drop}
+use borrow.Author.Needs.{needs}
+use Rattle.description.specs.Meaning.{describes}
 use Rattle.sequences.specs.Lists.{product}
-use Rattle.sequences.proofs.Loops.{product-next, product-end}
 use Rattle.sequences.proofs.Counting.{getD-below}
+use Rattle.sequences.proofs.Loops.{product-next, product-stops}
 use Rattle.security.specs.Soundness.{positions, choicesOf, count}
+use Rattle.security.proofs.Undeclared.{one-choice}
 use Rattle.security.proofs.soundness.candidate_count.Statement.{statement}
 use Rattle.security.proofs.soundness.candidate_count.Tie as tie
 
 abbrev Inv-loop : tie.InvT-loop
-Inv-loop w n₀ b₀ n b = (b ≤ 16) × (n ≤ 8 ^ b) × (count (describes w) ≡ n * product (map (λ i. length (choicesOf (describes w) i)) (drop b positions)))
+Inv-loop w blocks n₀ b₀ n b =
+    (b ≤ blocks) × (n ≤ 8 ^ b) × (count (describes w) ≡ n * product (map (λ i. length (choicesOf (describes w) i)) (drop b positions)))
 
 abbrev μ-loop : tie.MeasureT-loop
-μ-loop w n₀ b₀ n b = 16 - b
+μ-loop w blocks n₀ b₀ n b = blocks - b
 
 grows : (b n r : ℕ) → n ≤ 8 ^ b → r ≤ 8 → n * r ≤ 8 ^ (b + 1)
 grows b n r h k = rw (add-one, pow-suc) (mul-le-mul h k)
+
+block-count-requires : tie.Need-block-count-requires Inv-loop μ-loop
+block-count-requires c κs = search needs
 
 loop-holds : tie.Need-loop-holds Inv-loop μ-loop
 unfolding count
 loop-holds c = (search needs, search needs, sym (one-mul _))
 
 choice-count-requires : tie.Need-choice-count-requires Inv-loop μ-loop
-choice-count-requires c κs = search needs
+choice-count-requires c κs = omega (arith, c .before .before .block-count .ensures .0)
 
 mul-n : tie.Need-mul-n Inv-loop μ-loop
-mul-n c = let h = grows (c .before .before .loop .b) (c .before .before .loop .n) (c .choice-count .result) (c .before .before .loop .inv .1) (c .choice-count .ensures .1) in let top : 8 ^ (c .before .before .loop .b + 1) ≤ 8 ^ 16 = pow-le-pow-right {n = 8} (lit< tt) {j = 16} (omega arith) in omega arith
+mul-n c =
+    let at = c .before .before .loop in
+    let blocks = c .before .before .before .block-count .ensures .1 in
+    let h = grows (at .b) (at .n) (c .choice-count .result) (at .inv .1) (c .choice-count .ensures .1) in
+    let top : 8 ^ (at .b + 1) ≤ 8 ^ 16 = pow-le-pow-right {n = 8} (lit< tt) {j = 16} (omega arith) in
+    omega arith
 
 add-b : tie.Need-add-b Inv-loop μ-loop
 add-b c = search needs
@@ -43,10 +52,25 @@ loop-less : tie.Need-loop-less Inv-loop μ-loop
 loop-less c = search needs
 
 loop-again : tie.Need-loop-again Inv-loop μ-loop
-loop-again c = (search needs, grows (c .before .before .loop .b) (c .before .before .loop .n) (c .choice-count .result) (c .before .before .loop .inv .1) (c .choice-count .ensures .1), c .before .before .loop .inv .2 ∙ ap (λ x. c .before .before .loop .n * x) (product-next (λ i. length (choicesOf (describes (c .before .before .before .args .w)) i)) positions 0 (c .before .before .loop .b) (omega arith) ∙ ap (λ x. x * product (map (λ i. length (choicesOf (describes (c .before .before .before .args .w)) i)) (drop (c .before .before .loop .b + 1) positions))) (ap (λ i. length (choicesOf (describes (c .before .before .before .args .w)) i)) (getD-below 16 (c .before .before .loop .b) 0 (omega arith)) ∙ sym (c .choice-count .ensures .0))) ∙ sym (mul-assoc _ _ _))
+loop-again c =
+    let at = c .before .before .loop in
+    let choices : ℕ → ℕ = λ i. length (choicesOf (describes (c .before .before .before .before .args .w .now)) i) in
+    let blocks = c .before .before .before .block-count .ensures .1 in
+    let factor = ap choices (getD-below 16 (at .b) 0 (omega arith)) ∙ sym (c .choice-count .ensures .0) in
+    let rest = product (map choices (drop (at .b + 1) positions)) in
+    let next = product-next choices positions 0 (at .b) (omega arith) ∙ ap (λ x. x * rest) factor in (
+      search needs,
+      grows (at .b) (at .n) (c .choice-count .result) (at .inv .1) (c .choice-count .ensures .1),
+      at .inv .2 ∙ ap (λ x. at .n * x) next ∙ sym (mul-assoc _ _ _),
+    )
 
 returns : tie.Need-returns Inv-loop μ-loop
-returns c = sym (c .before .loop .inv .2 ∙ ap (λ x. c .before .loop .n * x) (product-end positions (c .before .loop .b) (omega arith) (λ i. length (choicesOf (describes (c .before .before .args .w)) i))) ∙ mul-one _)
+returns c =
+    let d = describes (c .before .before .before .args .w .now) in
+    let at = c .before .loop in
+    let blocks = c .before .before .block-count .ensures .0 in
+    let stops = product-stops (λ i. length (choicesOf d i)) (at .b) 16 (λ i l. one-choice d i (omega (arith, blocks))) in
+    sym (at .inv .2 ∙ ap (λ x. at .n * x) stops ∙ mul-one _)
 
 pub candidate-count-spec : {M : Type 1} → statement M
 candidate-count-spec =
@@ -54,6 +78,7 @@ candidate-count-spec =
     (tie.spec
     Inv-loop
     μ-loop
+    block-count-requires
     loop-holds
     choice-count-requires
     mul-n

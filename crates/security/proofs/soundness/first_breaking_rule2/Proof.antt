@@ -13,7 +13,8 @@ use Rattle.security.proofs.soundness.first_breaking_rule2.Statement.{st
 use Rattle.security.proofs.soundness.first_breaking_rule2.Tie as tie
 
 abbrev Inv-loop : tie.InvT-loop
-Inv-loop w n i₀ i = (i ≤ n) × (n ≡ length (describes w .blocks)) × (first (breaks2) (describes w .blocks) ≡ firstFrom i (breaks2) (drop i (describes w .blocks)))
+Inv-loop w n i₀ i =
+    (i ≤ n) × (n ≡ length (describes w .blocks)) × (first (breaks2) (describes w .blocks) ≡ firstFrom i (breaks2) (drop i (describes w .blocks)))
 
 abbrev μ-loop : tie.MeasureT-loop
 μ-loop w n i₀ i = n - i
@@ -31,7 +32,11 @@ breaks-rule2-requires : tie.Need-breaks-rule2-requires Inv-loop μ-loop
 breaks-rule2-requires c κs = search needs
 
 returns : tie.Need-returns Inv-loop μ-loop
-returns c = sym (c .before .before .before .before .loop .inv .2 ∙ first-hit (breaks2) (describes (c .before .before .before .before .before .before .args .w) .blocks) noBlock (c .before .before .before .before .loop .i) (omega arith) (told (breaks2) (c .before .before .block-at .ensures) (c .before .breaks-rule2 .ensures) (c .if1 .taken)))
+returns c =
+    let at = c .before .before .before .before in
+    let blocks = describes (at .before .before .args .w .now) .blocks in
+    let hit = told (breaks2) (c .before .before .block-at .ensures) (c .before .breaks-rule2 .ensures) (c .if1 .taken) in
+    sym (at .loop .inv .2 ∙ first-hit (breaks2) blocks noBlock (at .loop .i) (omega arith) hit)
 
 add-i : tie.Need-add-i Inv-loop μ-loop
 add-i c = search needs
@@ -40,10 +45,16 @@ loop-less : tie.Need-loop-less Inv-loop μ-loop
 loop-less c = search needs
 
 loop-again : tie.Need-loop-again Inv-loop μ-loop
-loop-again c = (search needs, c .before .before .before .before .loop .inv .1, c .before .before .before .before .loop .inv .2 ∙ first-miss (breaks2) (describes (c .before .before .before .before .before .before .args .w) .blocks) noBlock (c .before .before .before .before .loop .i) (omega arith) (told (breaks2) (c .before .before .block-at .ensures) (c .before .breaks-rule2 .ensures) (c .if1 .left)))
+loop-again c =
+    let at = c .before .before .before .before in
+    let blocks = describes (at .before .before .args .w .now) .blocks in
+    let miss = told (breaks2) (c .before .before .block-at .ensures) (c .before .breaks-rule2 .ensures) (c .if1 .left) in
+    (search needs, at .loop .inv .1, at .loop .inv .2 ∙ first-miss (breaks2) blocks noBlock (at .loop .i) (omega arith) miss)
 
 returns-2 : tie.Need-returns-2 Inv-loop μ-loop
-returns-2 c = sym (c .before .loop .inv .2 ∙ first-end (describes (c .before .before .before .args .w) .blocks) (c .before .loop .i) (omega arith) (breaks2))
+returns-2 c =
+    let at = c .before in
+    sym (at .loop .inv .2 ∙ first-end (describes (at .before .before .args .w .now) .blocks) (at .loop .i) (omega arith) (breaks2))
 
 pub first-breaking-rule2-spec : {M : Type 1} → statement M
 first-breaking-rule2-spec =

@@ -16,14 +16,19 @@ block-count-requires c κs = search needs
 
 returns : tie.Need-returns
 unfolding mayStand
-returns c = simp (let h : length (describes (c .before .before .args .w) .blocks) ≤ c .before .before .args .b = omega arith in le-ltb _ _ h)
+returns c = simp (let h : length (describes (c .before .before .args .w .now) .blocks) ≤ c .before .before .args .b = omega arith in le-ltb _ _ h)
 
 cloud-count-requires : tie.Need-cloud-count-requires
 cloud-count-requires c κs = search needs
 
 returns-2 : tie.Need-returns-2
 unfolding mayStand
-returns-2 c = simp ((let h : c .before .before .before .before .args .b < length (describes (c .before .before .before .before .args .w) .blocks) = omega arith in lt-ltb _ _ h), (let h : length (describes (c .before .before .before .before .args .w) .clouds) ≤ c .before .before .before .before .args .k = omega arith in le-ltb _ _ h))
+returns-2 c =
+    let a = c .before .before .before .before .args in
+    let d = describes (a .w .now) in
+    let known : a .b < length (d .blocks) = omega arith in
+    let past : length (d .clouds) ≤ a .k = omega arith in
+    simp (lt-ltb _ _ known, le-ltb _ _ past)
 
 block-at-requires : tie.Need-block-at-requires
 block-at-requires c κs = search needs
@@ -36,14 +41,37 @@ covers-requires c κs = search needs
 
 returns-3 : tie.Need-returns-3
 unfolding mayStand
-returns-3 c = simp ((let h : c .before .before .before .before .before .before .before .before .args .b < length (describes (c .before .before .before .before .before .before .before .before .args .w) .blocks) = omega arith in lt-ltb _ _ h), (let h : c .before .before .before .before .before .before .before .before .args .k < length (describes (c .before .before .before .before .before .before .before .before .args .w) .clouds) = omega arith in lt-ltb _ _ h), (sym (ap (λ x. covers x (block (describes (c .before .before .before .before .before .before .before .before .args .w)) (c .before .before .before .before .before .before .before .before .args .b) .level)) (ap (λ x. x .level) (c .before .before .cloud-at .ensures))) ∙ sym (ap (λ x. covers (c .before .before .cloud-at .result .level) x) (ap (λ x. x .level) (c .before .before .before .block-at .ensures))) ∙ sym (c .before .covers .ensures) ∙ not-true _ (c .if3 .taken)))
+returns-3 c =
+    let a = c .before .before .before .before .before .before .before .before .args in
+    let d = describes (a .w .now) in
+    let known : a .b < length (d .blocks) = omega arith in
+    let there : a .k < length (d .clouds) = omega arith in
+    let cloud = c .before .before .cloud-at in
+    let upper = ap (λ x. covers x (block d (a .b) .level)) (ap (λ x. x .level) (cloud .ensures)) in
+    let lower = ap (λ x. covers (cloud .result .level) x) (ap (λ x. x .level) (c .before .before .before .block-at .ensures)) in
+    simp (lt-ltb _ _ known, lt-ltb _ _ there, sym upper ∙ sym lower ∙ sym (c .before .covers .ensures) ∙ not-true _ (c .if3 .taken))
 
 pin-allows-requires : tie.Need-pin-allows-requires
 pin-allows-requires c κs = search needs
 
 returns-4 : tie.Need-returns-4
 unfolding mayStand
-returns-4 c = simp ((let h : c .before .before .before .before .before .before .before .before .before .args .b < length (describes (c .before .before .before .before .before .before .before .before .before .args .w) .blocks) = omega arith in lt-ltb _ _ h), (let h : c .before .before .before .before .before .before .before .before .before .args .k < length (describes (c .before .before .before .before .before .before .before .before .before .args .w) .clouds) = omega arith in lt-ltb _ _ h), (sym (ap (λ x. covers x (block (describes (c .before .before .before .before .before .before .before .before .before .args .w)) (c .before .before .before .before .before .before .before .before .before .args .b) .level)) (ap (λ x. x .level) (c .before .before .before .cloud-at .ensures))) ∙ sym (ap (λ x. covers (c .before .before .before .cloud-at .result .level) x) (ap (λ x. x .level) (c .before .before .before .before .block-at .ensures))) ∙ sym (c .before .before .covers .ensures) ∙ not-false _ (c .before .if3 .left)), c .pin-allows .ensures, c .before .before .before .before .block-at .ensures)
+returns-4 c =
+    let a = c .before .before .before .before .before .before .before .before .before .args in
+    let d = describes (a .w .now) in
+    let known : a .b < length (d .blocks) = omega arith in
+    let there : a .k < length (d .clouds) = omega arith in
+    let cloud = c .before .before .before .cloud-at in
+    let chosen = c .before .before .before .before .block-at .ensures in
+    let upper = ap (λ x. covers x (block d (a .b) .level)) (ap (λ x. x .level) (cloud .ensures)) in
+    let lower = ap (λ x. covers (cloud .result .level) x) (ap (λ x. x .level) chosen) in
+    simp (
+      lt-ltb _ _ known,
+      lt-ltb _ _ there,
+      sym upper ∙ sym lower ∙ sym (c .before .before .covers .ensures) ∙ not-false _ (c .before .if3 .left),
+      c .pin-allows .ensures,
+      chosen,
+    )
 
 pub may-stand-spec : {M : Type 1} → statement M
 may-stand-spec =
