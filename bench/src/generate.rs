@@ -98,9 +98,14 @@ pub fn open(blocks: usize, clouds: u8, edges: usize) -> Vec<u8> {
 
 /// The same with every block pinned to cloud 0, where all may stand: one candidate.
 pub fn pinned(text: &[u8], blocks: usize) -> Vec<u8> {
+    with_pins(text, (0..blocks as u8).map(|block| [block, 0]))
+}
+
+/// A block and its cloud for each pin.
+fn with_pins(text: &[u8], pins: impl Iterator<Item = [u8; 2]>) -> Vec<u8> {
     let mut bytes = text[..text.len() - 1].to_vec();
-    for block in 0..blocks {
-        bytes.extend([6, block as u8, 0]);
+    for [block, cloud] in pins {
+        bytes.extend([6, block, cloud]);
     }
     bytes.push(END);
     bytes
@@ -115,6 +120,13 @@ pub fn guarded(blocks: usize, edges: usize) -> Vec<u8> {
     text.blocks(blocks, 4);
     text.edges(blocks, edges);
     text.end()
+}
+
+/// As many clouds, blocks and edges as there may be. Every third block is free, which makes 4,096
+/// candidates; the others are on clouds that are high enough for all data, so that there are rows.
+pub fn largest() -> Vec<u8> {
+    let fixed = (0..16).filter(|block| block % 3 != 1);
+    with_pins(&guarded(16, 32), fixed.map(|block| [block, 4 + block % 4]))
 }
 
 /// Data alone on two clouds: every placement is an option of its own.

@@ -1,6 +1,6 @@
 //! Measures the engine against the same work in Rust and prints ratios, as tables in Markdown.
 //!
-//!     driver [draw|list|all] [BITS]
+//!     driver [draw|list|calls|all] [BITS]
 //!
 //! It runs at the repository's root. The largest descriptions have 2^BITS candidates, 2^16 where
 //! BITS is not given. Outputs that differ are a failure; a missed limit is not.
@@ -10,8 +10,10 @@ use std::path::Path;
 use std::process::ExitCode;
 use std::time::Instant;
 
+use bench::calls::call_ratios;
 use bench::cases::{census_case, draw_case};
 use bench::generate::{chain, data, guarded, open, pinned};
+use bench::markdown::{header, name_of};
 use bench::measure::{Program, agree, least, ratios, store};
 use panel::calls::list;
 use reference::description::{Description, read};
@@ -45,31 +47,22 @@ fn measure() -> io::Result<()> {
     let bits = words.get(1).map_or(Ok(16), |word| word.parse());
     let bits = bits.ok().filter(|bits| (6..=16).contains(bits));
     let bits = bits.ok_or(io::Error::other("BITS is from 6 to 16"))?;
-    if subject != "list" {
+    if ["draw", "all"].contains(&subject) {
         draw_ratios(bits)?;
         draw_growth(bits)?;
     }
-    if subject != "draw" {
+    if ["list", "all"].contains(&subject) {
         list_ratios(bits)?;
         list_growth(bits);
+    }
+    if ["calls", "all"].contains(&subject) {
+        call_ratios()?;
     }
     Ok(())
 }
 
-fn header(columns: &[&str]) {
-    println!("| {} |", columns.join(" | "));
-    println!("|{}", "---|".repeat(columns.len()));
-}
-
 fn accepted(text: &[u8]) -> Description {
     read(text).expect("what is generated is accepted")
-}
-
-fn name_of(described: &Description) -> String {
-    let blocks = described.blocks.len();
-    let clouds = described.clouds.len();
-    let edges = described.edges.len();
-    format!("{blocks} blocks on {clouds} clouds, {edges} edges")
 }
 
 /// Draws that see so many candidates together: from the start, from rows all along the list, from

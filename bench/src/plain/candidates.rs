@@ -1,0 +1,207 @@
+//! The candidates, which of them are secure, what each costs, and which are one option
+//! (docs/FORMAT.md, sections 2, 3 and 4).
+
+use super::description::{Block, Cloud, Description, Edge, Few, Kind, Way};
+
+/// The cloud of each block, then zeros.
+pub type Clouds = [u8; 16];
+
+/// All candidates in dictionary order, counted up like the wheels of an odometer.
+pub struct Candidates {
+    /// A bit for each cloud that the block may stand on.
+    masks: [u8; 16],
+    blocks: usize,
+    upcoming: Option<Clouds>,
+}
+
+impl Candidates {
+    fn of(described: &Description) -> Self {
+        let (mut masks, mut first) = ([0u8; 16], [0; 16]);
+        for (b, block) in described.blocks.iter().enumerate() {
+            for cloud in described.choices(block) {
+                masks[b] |= 1 << cloud;
+            }
+            first[b] = masks[b].trailing_zeros() as u8;
+        }
+        let blocks = described.blocks.len();
+        let some = !masks[..blocks].contains(&0);
+        Candidates {
+            masks,
+            blocks,
+            upcoming: some.then_some(first),
+        }
+    }
+
+    fn after(&self, mut placement: Clouds) -> Option<Clouds> {
+        for b in (0..self.blocks).rev() {
+            // The clouds above its own.
+            let higher = self.masks[b] & (0xFE << placement[b]);
+            if higher != 0 {
+                placement[b] = higher.trailing_zeros() as u8;
+                return Some(placement);
+            }
+            placement[b] = self.masks[b].trailing_zeros() as u8;
+        }
+        None
+    }
+}
+
+impl Iterator for Candidates {
+    type Item = Clouds;
+
+    fn next(&mut self) -> Option<Clouds> {
+        let placement = self.upcoming?;
+        self.upcoming = self.after(placement);
+        Some(placement)
+    }
+}
+
+impl Edge {
+    /// The clouds of the edge's service and of its datum.
+    fn ends(&self, placement: &Clouds) -> [u8; 2] {
+        [self.service, self.datum].map(|block| placement[usize::from(block)])
+    }
+
+    /// The cloud that the datum leaves and the one that it enters.
+    pub fn course(&self, placement: &Clouds) -> [u8; 2] {
+        let [service, datum] = self.ends(placement);
+        match self.way {
+            Way::Reads => [datum, service],
+            Way::Writes => [service, datum],
+        }
+    }
+}
+
+impl Block {
+    fn gigabytes(&self) -> u64 {
+        match self.kind {
+            Kind::Datum { gigabytes, .. } => u64::from(gigabytes),
+            Kind::Service { .. } => 0,
+        }
+    }
+}
+
+impl Cloud {
+    /// What a block is charged where it stands.
+    fn charge(&self, block: &Block) -> u64 {
+        match block.kind {
+            Kind::Datum {
+                gigabytes,
+                longevity,
+            } => u64::from(gigabytes) * u64::from(longevity) * u64::from(self.storage),
+            Kind::Service { units, .. } => u64::from(units) * u64::from(self.cpu),
+        }
+    }
+}
+
+impl Description {
+    pub fn candidates(&self) -> Candidates {
+        Candidates::of(self)
+    }
+
+    fn cloud(&self, number: u8) -> &Cloud {
+        &self.clouds[usize::from(number)]
+    }
+
+    fn datum(&self, edge: &Edge) -> &Block {
+        &self.blocks[usize::from(edge.datum)]
+    }
+
+    /// The edge leaves a copy on a cloud below the datum's level: rule 16 for a read, 17 for a
+    /// write.
+    fn exposes(&self, edge: &Edge, placement: &Clouds) -> bool {
+        let [service, datum] = edge.ends(placement);
+        service != datum && self.cloud(service).level < self.datum(edge).level
+    }
+
+    /// The first edge that breaks rule 16, where the way is reads, or 17.
+    pub fn first_breaking(&self, way: Way, placement: &Clouds) -> Option<usize> {
+        let breaks = |e: &Edge| e.way == way && self.exposes(e, placement);
+        self.edges.iter().position(breaks)
+    }
+
+    /// What a candidate costs; none where it is not secure.
+    pub fn cost(&self, placement: &Clouds) -> Option<u64> {
+        let mut cost = 0;
+        for edge in self.edges.iter() {
+            let [service, home] = edge.ends(placement);
+            if service == home {
+                continue;
+            }
+            let (service, home, datum) = (self.cloud(service), self.cloud(home), self.datum(edge));
+            if service.level < datum.level {
+                return None;
+            }
+            let [outward, inward] = match edge.way {
+                Way::Reads => [home.outward, service.inward],
+                Way::Writes => [service.outward, home.inward],
+            };
+            cost += datum.gigabytes() * (u64::from(outward) + u64::from(inward));
+        }
+        for (block, &cloud) in self.blocks.iter().zip(placement) {
+            cost += self.cloud(cloud).charge(block);
+        }
+        Some(cost)
+    }
+}
+
+/// A datum that has a writer and only one reader.
+#[derive(Clone, Copy)]
+struct Link {
+    datum: usize,
+    writer: usize,
+    reader: usize,
+}
+
+/// What makes two placements of a description one option.
+pub struct Sameness(Few<Link, 16>);
+
+impl Sameness {
+    pub fn of(described: &Description) -> Self {
+        let (mut writers, mut readers, mut counts) = ([None; 16], [0; 16], [0; 16]);
+        for edge in described.edges.iter() {
+            let [service, datum] = [edge.service, edge.datum].map(usize::from);
+            match edge.way {
+                Way::Writes => writers[datum] = Some(service),
+                Way::Reads => {
+                    readers[datum] = service;
+                    counts[datum] += 1;
+                }
+            }
+        }
+        let mut links = Few::none(Link {
+            datum: 0,
+            writer: 0,
+            reader: 0,
+        });
+        for datum in 0..16 {
+            if let (Some(writer), 1) = (writers[datum], counts[datum]) {
+                let reader = readers[datum];
+                links.push(Link {
+                    datum,
+                    writer,
+                    reader,
+                });
+            }
+        }
+        Sameness(links)
+    }
+
+    /// Equal exactly for secure placements of one option. A datum of a link goes from its writer to
+    /// its reader whether it stands with the one or the other; anywhere else, and for all other
+    /// blocks, another cloud is another option.
+    pub fn key(&self, placement: &Clouds) -> u64 {
+        let mut same = *placement;
+        for link in self.0.iter() {
+            if placement[link.datum] == placement[link.reader] {
+                same[link.datum] = placement[link.writer];
+            }
+        }
+        packed(&same)
+    }
+}
+
+/// The clouds as the digits of one number to the base 8, the first block's digit the highest.
+pub fn packed(clouds: &[u8]) -> u64 {
+    clouds.iter().fold(0, |n, &cloud| n * 8 + u64::from(cloud))
+}

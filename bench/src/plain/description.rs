@@ -1,0 +1,283 @@
+//! The bytes of a description and what they declare (docs/FORMAT.md, sections 1, 2 and 6).
+
+use std::ops::Deref;
+
+use panel::Refusal;
+
+#[derive(Clone, Copy)]
+pub struct Cloud {
+    pub level: u8,
+    pub storage: u16,
+    pub inward: u16,
+    pub outward: u16,
+    pub cpu: u16,
+}
+
+#[derive(Clone, Copy)]
+pub enum Kind {
+    Datum { gigabytes: u16, longevity: u16 },
+    Service { clearance: u8, units: u32 },
+}
+
+#[derive(Clone, Copy)]
+pub struct Block {
+    /// The level of a datum, the location of a service.
+    pub level: u8,
+    pub kind: Kind,
+    pub pin: Option<u8>,
+}
+
+#[derive(Clone, Copy, PartialEq)]
+pub enum Way {
+    Reads,
+    Writes,
+}
+
+#[derive(Clone, Copy, PartialEq)]
+pub struct Edge {
+    pub way: Way,
+    pub service: u8,
+    pub datum: u8,
+}
+
+/// A list of at most N things. It is on the stack, so that a call allocates nothing for it.
+#[derive(Clone, Copy)]
+pub struct Few<T, const N: usize> {
+    things: [T; N],
+    count: usize,
+}
+
+impl<T: Copy, const N: usize> Few<T, N> {
+    /// The filler stands where no thing is yet, and is not looked at.
+    pub fn none(filler: T) -> Self {
+        Few {
+            things: [filler; N],
+            count: 0,
+        }
+    }
+
+    pub fn push(&mut self, thing: T) {
+        self.things[self.count] = thing;
+        self.count += 1;
+    }
+
+    fn refuse_if_full(&self) -> Result<(), u8> {
+        refuse_if(self.count == N, 4)
+    }
+}
+
+impl<T, const N: usize> Deref for Few<T, N> {
+    type Target = [T];
+
+    fn deref(&self) -> &[T] {
+        &self.things[..self.count]
+    }
+}
+
+pub struct Description {
+    pub clouds: Few<Cloud, 8>,
+    pub blocks: Few<Block, 16>,
+    pub edges: Few<Edge, 32>,
+}
+
+/// What Read accepts: the description that the bytes spell, or its first refusal.
+pub fn read(text: &[u8]) -> Result<Description, Refusal> {
+    let mut described = Description::nothing();
+    described.decode(text)?;
+    described.check()?;
+    Ok(described)
+}
+
+/// The number of a fault, if there is one.
+fn refuse_if(fault: bool, number: u8) -> Result<(), u8> {
+    if fault { Err(number) } else { Ok(()) }
+}
+
+impl Description {
+    fn nothing() -> Self {
+        let kind = Kind::Datum {
+            gigabytes: 0,
+            longevity: 0,
+        };
+        Description {
+            clouds: Few::none(Cloud {
+                level: 0,
+                storage: 0,
+                inward: 0,
+                outward: 0,
+                cpu: 0,
+            }),
+            blocks: Few::none(Block {
+                level: 0,
+                kind,
+                pin: None,
+            }),
+            edges: Few::none(Edge {
+                way: Way::Reads,
+                service: 0,
+                datum: 0,
+            }),
+        }
+    }
+
+    fn decode(&mut self, text: &[u8]) -> Result<(), Refusal> {
+        let mut at = 0;
+        while text.get(at) != Some(&0) {
+            let place = at as u64;
+            let added = self.add(&text[at..]);
+            at += added.map_err(|number| Refusal { number, place })?;
+        }
+        let end = at + 1;
+        refuse_at(3, (end < text.len()).then_some(end))?;
+        let empty = self.clouds.is_empty() || self.blocks.is_empty();
+        refuse_at(8, empty.then_some(end))
+    }
+
+    /// Adds the command that the text begins with, which is not 00; answers its width.
+    fn add(&mut self, text: &[u8]) -> Result<usize, u8> {
+        match *text {
+            [1, level, s, t, i, j, o, p, c, d, ..] => {
+                let rates = [[s, t], [i, j], [o, p], [c, d]];
+                self.add_cloud(level, rates.map(u16::from_be_bytes))?;
+                Ok(10)
+            }
+            [2, level, s, t, l, m, ..] => {
+                let [size, longevity] = [[s, t], [l, m]].map(u16::from_be_bytes);
+                self.add_datum(level, size, longevity)?;
+                Ok(6)
+            }
+            [3, location, clearance, a, b, c, d, ..] => {
+                let units = u32::from_be_bytes([a, b, c, d]);
+                self.add_service(location, clearance, units)?;
+                Ok(7)
+            }
+            [4, service, datum, ..] => self.add_edge(Way::Reads, service, datum),
+            [5, service, datum, ..] => self.add_edge(Way::Writes, service, datum),
+            [6, block, cloud, ..] => self.add_pin(block, cloud),
+            [] | [1..=6, ..] => Err(1),
+            _ => Err(2),
+        }
+    }
+
+    fn add_cloud(&mut self, level: u8, rates: [u16; 4]) -> Result<(), u8> {
+        self.clouds.refuse_if_full()?;
+        refuse_if(level > 15, 5)?;
+        let [storage, inward, outward, cpu] = rates;
+        self.clouds.push(Cloud {
+            level,
+            storage,
+            inward,
+            outward,
+            cpu,
+        });
+        Ok(())
+    }
+
+    fn add_datum(&mut self, level: u8, size: u16, longevity: u16) -> Result<(), u8> {
+        self.blocks.refuse_if_full()?;
+        refuse_if(level > 15, 5)?;
+        self.blocks.push(Block {
+            level,
+            kind: Kind::Datum {
+                gigabytes: size.div_ceil(10),
+                longevity,
+            },
+            pin: None,
+        });
+        Ok(())
+    }
+
+    fn add_service(&mut self, location: u8, clearance: u8, units: u32) -> Result<(), u8> {
+        self.blocks.refuse_if_full()?;
+        refuse_if(location > 15 || clearance > 15, 5)?;
+        self.blocks.push(Block {
+            level: location,
+            kind: Kind::Service { clearance, units },
+            pin: None,
+        });
+        Ok(())
+    }
+
+    fn add_edge(&mut self, way: Way, service: u8, datum: u8) -> Result<usize, u8> {
+        self.edges.refuse_if_full()?;
+        let kind = |block: u8| self.blocks.get(usize::from(block)).map(|b| b.kind);
+        let names = (kind(service), kind(datum));
+        let fit = matches!(
+            names,
+            (Some(Kind::Service { .. }), Some(Kind::Datum { .. }))
+        );
+        refuse_if(!fit, 6)?;
+        let clashes = |e: &Edge| {
+            e.datum == datum && e.way == way && (way == Way::Writes || e.service == service)
+        };
+        refuse_if(self.edges.iter().any(clashes), 7)?;
+        self.edges.push(Edge {
+            way,
+            service,
+            datum,
+        });
+        Ok(3)
+    }
+
+    fn add_pin(&mut self, block: u8, cloud: u8) -> Result<usize, u8> {
+        let block = usize::from(block);
+        let named = block < self.blocks.len() && usize::from(cloud) < self.clouds.len();
+        refuse_if(!named, 6)?;
+        let pin = &mut self.blocks.things[block].pin;
+        refuse_if(pin.is_some(), 7)?;
+        *pin = Some(cloud);
+        Ok(3)
+    }
+
+    /// Rules 2, 3 and 4 and the limit on candidates: numbers 9 to 12.
+    fn check(&self) -> Result<(), Refusal> {
+        refuse_at(9, self.blocks.iter().position(breaks_rule_2))?;
+        refuse_at(10, self.edges.iter().position(|e| self.breaks_rule_3(e)))?;
+        refuse_at(11, self.edges.iter().position(|e| self.breaks_rule_4(e)))?;
+        refuse_at(12, (self.candidate_count() > 65_536).then_some(0))
+    }
+
+    fn breaks_rule_3(&self, edge: &Edge) -> bool {
+        let service = &self.blocks[usize::from(edge.service)];
+        let datum = &self.blocks[usize::from(edge.datum)];
+        let too_low =
+            matches!(service.kind, Kind::Service { clearance, .. } if clearance < datum.level);
+        edge.way == Way::Reads && too_low
+    }
+
+    fn breaks_rule_4(&self, edge: &Edge) -> bool {
+        let [service, datum] = [edge.service, edge.datum].map(usize::from);
+        edge.way == Way::Writes && self.blocks[service].level > self.blocks[datum].level
+    }
+
+    /// Rule 7 and the pin.
+    pub fn may_stand(&self, block: &Block, cloud: u8) -> bool {
+        self.clouds[usize::from(cloud)].level >= block.level
+            && block.pin.is_none_or(|pin| pin == cloud)
+    }
+
+    /// The clouds that a block may stand on, the lowest first.
+    pub fn choices(&self, block: &Block) -> impl Iterator<Item = u8> {
+        (0..self.clouds.len() as u8).filter(|&cloud| self.may_stand(block, cloud))
+    }
+
+    pub fn candidate_count(&self) -> u64 {
+        let counts = self.blocks.iter().map(|b| self.choices(b).count() as u64);
+        counts.product()
+    }
+}
+
+fn breaks_rule_2(block: &Block) -> bool {
+    matches!(block.kind, Kind::Service { clearance, .. } if clearance < block.level)
+}
+
+/// Refuses with the number, if there is a place.
+pub fn refuse_at(number: u8, place: Option<usize>) -> Result<(), Refusal> {
+    match place {
+        Some(place) => Err(Refusal {
+            number,
+            place: place as u64,
+        }),
+        None => Ok(()),
+    }
+}
