@@ -57,7 +57,7 @@
 #define PANEL_BLOCKS 16     /* bytes of a placement: the cloud of each block, and 0 where there is no block */
 #define PANEL_TRANSFERS 128 /* bytes that hold the transfers of any placement */
 #define PANEL_LIST 131072   /* words that hold the rows of any description; the scratch needs as many */
-#define PANEL_STACK 32768   /* bytes of stack that are enough for any call: the deepest, panel_draw, takes some 24,000 */
+#define PANEL_STACK 32768   /* bytes of stack that are enough for any call: the deepest, panel_draw, takes some 23,000 */
 
 #define PANEL_NUMBER(status) ((unsigned)((status) & 255))
 #define PANEL_PLACE(status) ((uint64_t)(status) >> 8)

@@ -9,7 +9,7 @@ The programs are those in target/bin.
     lists.py
 
 A long list is not drawn whole: a draw takes a walk of its own.  Of more than MOST_DRAWS
-rows, draws begin at so many, from the first to the last; and the brute-force lister lists
+rows, draws begin at so many, from the first to the last; and the brute-force model lists
 descriptions of up to QUICK candidates and the examples.
 """
 
@@ -52,7 +52,7 @@ def rows_in(lines, blocks):
 
 
 def check_lines(text, lines):
-    """What was printed is what the brute-force lister says, as far as it is asked."""
+    """What was printed is what the brute-force model says, as far as it is asked."""
     try:
         described = read(text)
     except Refused as refusal:

@@ -25,7 +25,7 @@ const LISTOPTIONS: Program = Program::new("target/bin/listoptions", &[]);
 const WALK: Program = Program::new("target/bench/release/walk", &[]);
 const PLAIN: Program = Program::new("target/bench/release/brute", &["plain"]);
 const OPTIONS: Program = Program::new("target/bench/release/brute", &["options"]);
-const LISTER: Program = Program::new("target/bench/release/lister", &[]);
+const PLAIN_LIST: Program = Program::new("target/bench/release/plain_list", &[]);
 
 /// Candidates that the draws of one measurement see together, so that it takes long enough.
 const SEEN_FOR_RATIOS: u64 = 1 << 22;
@@ -175,12 +175,17 @@ fn draw_growth(bits: usize) -> io::Result<()> {
 
 fn list_ratios(bits: usize) -> io::Result<()> {
     println!("List: the engine's time divided by that of\n");
-    header(&["Description", "Candidates", "Rows", "lister (at most 0.5)"]);
+    header(&[
+        "Description",
+        "Candidates",
+        "Rows",
+        "plain list (at most 0.5)",
+    ]);
     let on_8 = bits / 3;
     for text in [data(bits), chain(bits), open(on_8, 8, edges_for(on_8))] {
         let input = store("description", &text)?;
-        agree(&[&LISTOPTIONS, &LISTER], &input, |output| output)?;
-        let [ratio] = ratios(&LISTOPTIONS, [&LISTER], &input, 21)?;
+        agree(&[&LISTOPTIONS, &PLAIN_LIST], &input, |output| output)?;
+        let [ratio] = ratios(&LISTOPTIONS, [&PLAIN_LIST], &input, 21)?;
         let described = accepted(&text);
         let (name, candidates) = (name_of(&described), described.candidate_count());
         let rows = sorted_rows(&described).len();

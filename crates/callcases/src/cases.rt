@@ -14,7 +14,7 @@ use crate::lines::put_transferred;
 use crate::lines::put_verdict;
 use crate::output::put;
 use crate::output::put_hex;
-use lister::Cursor;
+use survey::Cursor;
 
 // The offset behind a case's line in the output, or that it is no case.
 pub enum Reply {
@@ -41,7 +41,7 @@ fn answer_read(description: &[u8], out: &mut Buffer, at: usize) -> Reply
     requires { ⌜ at + line ≤ size ⌝ }
     ensures { λ r. ⌜ Within r ⌝ }
 {
-    let at = put_acceptance(out, at, rules::read(description));
+    let at = put_acceptance(out, at, judging::read(description));
     Reply::Line(put(out, at, b"\n"))
 }
 
@@ -53,7 +53,7 @@ fn answer_judge(description: &[u8], out: &mut Buffer, at: usize) -> Reply
     if !read_all(&mut placement) {
         return Reply::Bad;
     }
-    let at = put_verdict(out, at, rules::judge(description, placement));
+    let at = put_verdict(out, at, judging::judge(description, placement));
     Reply::Line(put(out, at, b"\n"))
 }
 
@@ -155,7 +155,7 @@ fn put_lent(
     requires { ⌜ length (now lent) ≤ 1024 ⌝ }
     ensures { λ r. ⌜ r ≤ size ⌝ }
 {
-    let at = put_transferred(out, at, rules::transfers(description, placement, lent));
+    let at = put_transferred(out, at, judging::transfers(description, placement, lent));
     let at = put_hex(out, at, lent);
     put(out, at, b"\n")
 }

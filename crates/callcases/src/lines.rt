@@ -7,13 +7,13 @@ use crate::output::put_clouds;
 use crate::output::put_number;
 use costs::answers::Transferred;
 use description::workflow::Refusal;
+use judging::answers::Acceptance;
 use lister::Answer;
 use lister::Counted;
 use lister::Drawn;
-use lister::Figures;
-use lister::Row;
-use rules::answers::Acceptance;
 use security::answers::Verdict;
+use survey::Figures;
+use survey::Row;
 
 pub fn put_acceptance(out: &mut Buffer, at: usize, a: Acceptance) -> usize
     requires { ⌜ at + words ≤ size ⌝ }

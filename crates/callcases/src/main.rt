@@ -92,14 +92,8 @@ fn answer_all(space: &mut Buffer, out: &mut Buffer) {
     }
 }
 
-// Nothing is read, but a descriptor that is closed or a folder's fails as it would for more.
-fn can_read() -> bool {
-    let mut nothing = [0u8; 1];
-    libc::read(STDIN_FILENO, &mut nothing[..0]) >= 0
-}
-
 fn main() {
-    if !can_read() {
+    if !standard_input::can_read() {
         os::fail(b"callcases: standard input");
         return;
     }

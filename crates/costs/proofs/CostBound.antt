@@ -1,15 +1,14 @@
 -- A cost is below 2^53, whatever the placement, where the description keeps the format's limits and ranges.
-use Prim.Native.Nat.{ℕ, suc, _*_, _^_, _≤_, _<_, zero-le}
+use Prim.Native.Nat.{ℕ, _*_, _^_, _≤_, _<_, zero-le}
 use native.Mathlib.Nat.{mul-le-mul}
 use native.Mathlib.Omega.{arith}
 use mathlib.Core.Path.{_≡_}
-use mathlib.Core.List.{List, [], _∷_, map}
+use mathlib.Core.List.{List, map}
 use lib.ListN.{length, getD}
 use Rattle.sequences.specs.Lists.{below, sum}
 use Rattle.sequences.specs.Results.{ok}
 use Rattle.sequences.proofs.Counting.{length-from}
 use Rattle.sequences.proofs.Sums.{sum-most-of}
-use Rattle.sequences.proofs.Tests.{cond-ind}
 use Rattle.description.specs.declared.workflow.Cloud.{Cloud}
 use Rattle.description.specs.declared.workflow.Kind.{Kind}
 use Rattle.description.specs.declared.workflow.Kind.the-variants.{Datum, Service}
@@ -18,9 +17,10 @@ use Rattle.description.specs.Format.{Description, cloud, block}
 use Rattle.description.specs.Bytes.{Bytes}
 use Rattle.description.specs.Invariants.{RatesFit, kindFits, InRange, Bounded}
 use Rattle.security.specs.Soundness.{read}
-use Rattle.security.specs.Placements.{moves}
-use Rattle.costs.specs.Transfers.{Transfer, transferOf, transfersFrom, transfers}
+use Rattle.costs.specs.Transfers.{Transfer, transfersFrom, transfers}
+use Rattle.weights.specs.Weights.{costLimit}
 use Rattle.costs.specs.Cost.{gigabytes, chargedOf, storageOf, cpuOf, transferCost, ofBlocks, cost}
+use Rattle.costs.proofs.Transferring.{transfers-length}
 use Rattle.security.proofs.Accepted.{read-bounded}
 
 -- ---- one term
@@ -67,13 +67,6 @@ transfer-most d h t =
 
 -- ---- sums: of the first n blocks, of the transfers of some edges, and of all
 
--- no more transfers than edges
-pub transfers-length : (n : ℕ) (p : List ℕ) (es : List Edge) → length (transfersFrom n p es) ≤ length es
-transfers-length n p [] = zero-le
-transfers-length n p (e ∷ es) =
-    cond-ind (λ (l : List Transfer). length l ≤ suc (length es)) (moves p e) (transferOf n p e ∷ transfersFrom (suc n) p es) (transfersFrom (suc n) p es)
-    (λ _. omega (arith, transfers-length (suc n) p es)) (λ _. omega (arith, transfers-length (suc n) p es))
-
 -- what the first n blocks come to on their clouds: all of them is `ofBlocks`
 abbrev pub upTo : ℕ → (Cloud → Kind → ℕ) → Description → List ℕ → ℕ
 upTo n amount d p = sum (map (λ b. amount (cloud d (getD p b 0)) (block d b .kind)) (below n))
@@ -95,7 +88,8 @@ module _ (d : Description) (p : List ℕ) (h : Bounded d) where
   cpu-upTo = upTo-most cpuOf mostCpu cpu-most
 
   pub transfers-most : (n : ℕ) (es : List Edge) → length es ≤ 32 → sum (map (transferCost d) (transfersFrom n p es)) ≤ 32 * mostTransfer
-  transfers-most n es l = sum-most-of (transferCost d) mostTransfer (transfer-most d (h .inRange)) 32 (transfersFrom n p es) (omega (arith, transfers-length n p es))
+  transfers-most n es l =
+      sum-most-of (transferCost d) mostTransfer (transfer-most d (h .inRange)) 32 (transfersFrom n p es) (omega (arith, transfers-length n p es))
 
   -- the three sums of the cost
   pub storage-sum : ofBlocks storageOf d p ≤ 16 * mostStorage
@@ -109,10 +103,10 @@ module _ (d : Description) (p : List ℕ) (h : Bounded d) where
   transfer-sum = transfers-most 0 (d .edges) (h .limits .edges)
 
 -- the most that the three sums come to together is below 2^53
-pub bounded-cost : (d : Description) (p : List ℕ) → Bounded d → cost d p < 2 ^ 53
+pub bounded-cost : (d : Description) (p : List ℕ) → Bounded d → cost d p < costLimit
 unfolding cost
 bounded-cost d p h = omega (arith, storage-sum d p h, cpu-sum d p h, transfer-sum d p h)
 
 -- so is every cost on an accepted description, of any list of numbers for a placement
-pub cost-below : (s p : List ℕ) (d : Description) → Bytes s → read s ≡ ok d → cost d p < 2 ^ 53
+pub cost-below : (s p : List ℕ) (d : Description) → Bytes s → read s ≡ ok d → cost d p < costLimit
 cost-below s p d b r = bounded-cost d p (read-bounded s d r b)

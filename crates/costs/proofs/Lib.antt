@@ -1,4 +1,7 @@
+pub mod BlockCosts
+pub mod Charges
 pub mod CostBound
+pub mod EdgeCosts
 pub mod Sides
 pub mod Transferring
 pub mod Weights

@@ -1,5 +1,5 @@
 -- Transfers, edge by edge: the first edge's own, then those of the rest; and their bytes, four for each.
-use Prim.Native.Nat.{ℕ, suc, _+_, _*_, _≤_, _<_}
+use Prim.Native.Nat.{ℕ, suc, _+_, _*_, _≤_, _<_, zero-le}
 use native.Mathlib.Nat.{suc-mul, zero-mul}
 use native.Mathlib.Numerals.{add-one}
 use native.Mathlib.Omega.{arith}
@@ -11,13 +11,13 @@ use borrow.Author.Tests.{lt-ltb, le-ltb}
 use lib.Seq.{sets, sets-eq, length-sets, length-take-le, take-at, drop-at, drop-drop}
 use Rattle.description.specs.declared.workflow.Edge.{Edge}
 use Rattle.description.specs.Format.{Description, noEdge}
-use Rattle.costs.specs.Transfers.{fitted}
 use Rattle.costs.specs.Cost.{transferCost, edgeCost}
 use Rattle.security.specs.Placements.{moves}
-use Rattle.costs.specs.Transfers.{Transfer, transferOf, transfersFrom, bytesOf}
+use Rattle.costs.specs.Transfers.{Transfer, transferOf, transfersFrom, transfers, bytesOf, fitted, bufferAfter}
 use Rattle.sequences.specs.Results.{ok, refused}
 use Rattle.sequences.specs.Lists.{sum}
 use Rattle.sequences.proofs.Loops.{rest, sum-next}
+use Rattle.sequences.proofs.Tests.{cond-ind}
 
 -- the edge's own transfer, if it makes one, comes before those of the edges behind it
 pub own-first : (n : ℕ) (p : List ℕ) (e : Edge) (es : List Edge) → transfersFrom n p (e ∷ es) ≡ transfersFrom n p (e ∷ []) ++ transfersFrom (suc n) p es
@@ -51,6 +51,17 @@ moved-one n p e h = simp h
 
 pub stayed-none : (n : ℕ) (p : List ℕ) (e : Edge) → moves p e ≡ false → length (transfersFrom n p (e ∷ [])) ≡ 0
 stayed-none n p e h = simp h
+
+-- no more transfers than edges
+pub transfers-length : (n : ℕ) (p : List ℕ) (es : List Edge) → length (transfersFrom n p es) ≤ length es
+transfers-length n p [] = zero-le
+transfers-length n p (e ∷ es) =
+    cond-ind (λ (l : List Transfer). length l ≤ suc (length es)) (moves p e) (transferOf n p e ∷ transfersFrom (suc n) p es) (transfersFrom (suc n) p es)
+    (λ _. omega (arith, transfers-length (suc n) p es)) (λ _. omega (arith, transfers-length (suc n) p es))
+
+pub transfers-few : (d : Description) (p : List ℕ) → length (transfers d p) ≤ length (d .edges)
+unfolding transfers
+transfers-few d p = transfers-length 0 p (d .edges)
 
 -- Writing the transfers of the edges es to a buffer that held b₀, edge by edge: before edge i the bytes below `at` are those of the
 -- earlier edges, and from there on the buffer is as it was.
@@ -118,8 +129,14 @@ too-short n ts h = simp (lt-ltb _ _ h)
 pub long-enough : (n : ℕ) (ts : List Transfer) → length (bytesOf ts) ≤ n → fitted n ts ≡ ok ts
 long-enough n ts h = simp (le-ltb _ _ h)
 
+-- a refusal leaves a buffer as it was
+pub refused-leaves : (number place : ℕ) (buffer : List ℕ) → bufferAfter (refused number place) buffer ≡ buffer
+unfolding bufferAfter
+refused-leaves number place buffer = refl
+
 -- what the transfers cost is summed edge by edge: a transfer's cost does not go by the edge's number
-pub transfers-by-edge : (d : Description) (p : List ℕ) (n : ℕ) (es : List Edge) → sum (map (transferCost d) (transfersFrom n p es)) ≡ sum (map (edgeCost d p) es)
+pub transfers-by-edge : (d : Description) (p : List ℕ) (n : ℕ) (es : List Edge)
+    → sum (map (transferCost d) (transfersFrom n p es)) ≡ sum (map (edgeCost d p) es)
 unfolding edgeCost
 transfers-by-edge d p n [] = refl
 transfers-by-edge d p n (e ∷ es) = step (moves p e) (transfers-by-edge d p (suc n) es)

@@ -1,6 +1,6 @@
 -- A placement's cost and what it breaks in one number, as a sum of one term for each block and one for each edge, each of which
 -- depends on where its own blocks stand: what a walk over placements carries along.
-use Prim.Native.Nat.{ℕ, _+_, _*_, _^_}
+use Prim.Native.Nat.{ℕ, _+_, _*_}
 use mathlib.Core.Bool.{Bool, not, _&&_, cond}
 use mathlib.Core.List.{List, map}
 use lib.Dec.{eqb}
@@ -11,7 +11,8 @@ use Rattle.description.specs.declared.workflow.Edge.{Edge}
 use Rattle.description.specs.declared.workflow.Way.{Way}
 use Rattle.description.specs.Format.{Description, cloud, block, isWrite}
 use Rattle.security.specs.Soundness.{covers, cloudLevel, blockLevel}
-use Rattle.security.specs.Placements.{serviceCloud, datumCloud}
+use Rattle.weights.specs.Weights.{first, second}
+use Rattle.security.specs.Placements.{serviceCloud, datumCloud, broken16, broken17}
 use Rattle.costs.specs.Cost.{chargedOf, storageOf, cpuOf}
 use Rattle.sequences.specs.Lists.{below, sum}
 
@@ -29,14 +30,18 @@ edgeCharge d e x y =
 abbrev pub edgeExposes : Description → Edge → (x y : ℕ) → Bool
 edgeExposes d e x y = not (eqb x y) && not (covers (cloudLevel d x) (blockLevel d (e .datum)))
 
--- the charge, with 2^53 for breaking rule 16 and 33 times that for breaking rule 17: there are at most 32 edges, and a cost is below 2^53
+-- what an edge adds where it exposes its copy: rule 16, of a read, is looked for before rule 17, of a write
+abbrev pub penalty : Way → ℕ
+penalty way = cond (isWrite way) second first
+
+-- the charge, with the penalty of what it breaks
 unfoldable pub edgeTerm : Description → Edge → (x y : ℕ) → ℕ
-edgeTerm d e x y = edgeCharge d e x y + cond (edgeExposes d e x y) (cond (isWrite (e .way)) (33 * 2 ^ 53) (2 ^ 53)) 0
+edgeTerm d e x y = edgeCharge d e x y + cond (edgeExposes d e x y) (penalty (e .way)) 0
 
 -- what each end of an edge adds by its own cloud, where the two stand apart: the service's with the penalty, and the datum's
 unfoldable pub serviceSide : Way → Cloud → Block → ℕ
 serviceSide way c datum =
-    cond (isWrite way) (c .outward) (c .inward) * chargedOf (datum .kind) + cond (covers (c .level) (datum .level)) 0 (cond (isWrite way) (33 * 2 ^ 53) (2 ^ 53))
+    cond (isWrite way) (c .outward) (c .inward) * chargedOf (datum .kind) + cond (covers (c .level) (datum .level)) 0 (penalty way)
 
 unfoldable pub datumSide : Way → Cloud → Block → ℕ
 datumSide way c datum = cond (not (isWrite way)) (c .outward) (c .inward) * chargedOf (datum .kind)
@@ -46,3 +51,7 @@ unfoldable pub weightOf : Description → List ℕ → ℕ
 weightOf d p =
     sum (map (λ b. blockTerm d b (getD p b 0)) (below (length (d .blocks)))) +
     sum (map (λ e. edgeTerm d e (serviceCloud p e) (datumCloud p e)) (d .edges))
+
+-- The class of a placement: 0 where it is secure, 1 where it breaks rule 16, 2 where it breaks rule 17 alone.
+unfoldable pub classIn : Description → List ℕ → ℕ
+classIn d p = cond (broken16 d p) 1 (cond (broken17 d p) 2 0)

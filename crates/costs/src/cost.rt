@@ -1,18 +1,16 @@
 // The cost of a placement: storage, transfers and computing. Each term is bounded by its operands' widths, so no sum overflows.
 ghost use mathlib.Core.Path.{_≡_};
-ghost use mathlib.Core.Bool.{cond};
-ghost use mathlib.Core.List.{[], _∷_, map};
-ghost use Prim.Native.Nat.{_≤_, _<_, _*_, _^_};
-ghost use lib.ListN.{length, getD};
+ghost use mathlib.Core.List.{map};
+ghost use Prim.Native.Nat.{_≤_, _<_, _*_};
 ghost use Rattle.sequences.specs.Lists.{sum};
+ghost use Rattle.weights.specs.Weights.{costLimit};
 ghost use Rattle.description.specs.Meaning.{describes};
 ghost use Rattle.costs.specs.Answers.{amountOf};
 ghost use Rattle.costs.specs.Cost.{gigabytes, chargedOf, storageOf, cpuOf, ofBlocks, transferCost, edgeCost, cost};
-ghost use Rattle.costs.specs.Transfers.{transfers, transfersFrom};
+ghost use Rattle.costs.specs.Transfers.{transfers};
 use crate::answers::Charge;
 use crate::transfer::destination_of;
 use crate::transfer::source_of;
-use description::decode::wide;
 use description::words::Words;
 use description::workflow::Cloud;
 use description::workflow::Edge;
@@ -24,6 +22,7 @@ use description::workflow::edge_at;
 use description::workflow::edge_count;
 use security::placements::cloud_of;
 use security::placements::moves;
+use sequences::wide;
 
 // Gigabytes charged for a size in tenths.
 pub fn gigabytes(size: u16) -> u64
@@ -134,10 +133,11 @@ fn transfers_cost(w: &Words, placement: [u8; 16]) -> u64
     total
 }
 
-// The whole cost, below 2^53.
+// The whole cost. No call needs it yet: Draw and List carry the cost down the walk, term by term. It says what those sums come to for one
+// placement, and is what a bill of a row by its parts will be made of (request A.1).
 pub fn cost(w: &Words, placement: [u8; 16]) -> u64
     ensures { λ r. ⌜ r ≡ cost (describes (now (w .entry))) placement ⌝ }
-    ensures { λ r. ⌜ r < 2 ^ 53 ⌝ }
+    ensures { λ r. ⌜ r < costLimit ⌝ }
 {
     let storage = blocks_cost(Charge::Storage, w, placement);
     let transfer = transfers_cost(w, placement);

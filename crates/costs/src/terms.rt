@@ -1,10 +1,10 @@
 // What one block and one edge add to a placement's weight, from where their blocks stand.
 ghost use mathlib.Core.Path.{_≡_};
 ghost use mathlib.Core.Bool.{cond};
-ghost use Prim.Native.Nat.{_*_, _^_, _≤_, _<_};
-ghost use Rattle.description.specs.Format.{isWrite};
+ghost use Prim.Native.Nat.{_^_, _≤_, _<_};
+ghost use Rattle.weights.specs.Weights.{second, termLimit};
 ghost use Rattle.description.specs.Meaning.{describes};
-ghost use Rattle.costs.specs.Terms.{blockTerm, serviceSide, datumSide};
+ghost use Rattle.costs.specs.Terms.{blockTerm, penalty, serviceSide, datumSide};
 ghost use Rattle.security.specs.Soundness.{covers};
 use crate::cost::charged_of;
 use crate::cost::cpu_of;
@@ -17,6 +17,8 @@ use description::workflow::Way;
 use description::workflow::block_at;
 use description::workflow::cloud_at;
 use security::soundness::covers;
+use weights::FIRST;
+use weights::SECOND;
 
 // What block b is charged on cloud k.
 pub fn block_term(w: &Words, b: usize, k: usize) -> u64
@@ -31,16 +33,16 @@ pub fn block_term(w: &Words, b: usize, k: usize) -> u64
 
 // What an exposed copy adds to the service's end of its edge.
 fn exposed(way: Way, cloud: Cloud, datum: Block) -> u64
-    ensures { λ r. ⌜ r ≡ cond (covers (cloud .level) (datum .level)) 0 (cond (isWrite way) (33 * 2 ^ 53) (2 ^ 53)) ⌝ }
-    ensures { λ r. ⌜ r ≤ 33 * 2 ^ 53 ⌝ }
+    ensures { λ r. ⌜ r ≡ cond (covers (cloud .level) (datum .level)) 0 (penalty way) ⌝ }
+    ensures { λ r. ⌜ r ≤ second ⌝ }
 {
     if covers(cloud.level, datum.level) {
         return 0;
     }
     if is_write(way) {
-        return 297237575406452736;
+        return SECOND;
     }
-    9007199254740992
+    FIRST
 }
 
 // What a gigabyte costs at one end: out of its cloud, or into it.
@@ -57,7 +59,7 @@ fn rate_at(out: bool, cloud: Cloud) -> u64
 // What an edge adds by the cloud of its service alone, where its datum stands on another.
 pub fn service_side(way: Way, cloud: Cloud, datum: Block) -> u64
     ensures { λ r. ⌜ r ≡ serviceSide way cloud datum ⌝ }
-    ensures { λ r. ⌜ r < 34 * 2 ^ 53 ⌝ }
+    ensures { λ r. ⌜ r < termLimit ⌝ }
 {
     let kind = datum.kind;
     rate_at(is_write(way), cloud) * charged_of(kind) + exposed(way, cloud, datum)
@@ -66,7 +68,7 @@ pub fn service_side(way: Way, cloud: Cloud, datum: Block) -> u64
 // What it adds by the cloud of its datum alone.
 pub fn datum_side(way: Way, cloud: Cloud, datum: Block) -> u64
     ensures { λ r. ⌜ r ≡ datumSide way cloud datum ⌝ }
-    ensures { λ r. ⌜ r < 34 * 2 ^ 53 ⌝ }
+    ensures { λ r. ⌜ r < termLimit ⌝ }
 {
     let kind = datum.kind;
     rate_at(!is_write(way), cloud) * charged_of(kind)

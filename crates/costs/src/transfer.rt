@@ -14,7 +14,6 @@ ghost use Rattle.security.specs.Placements.{judge};
 ghost use Rattle.costs.specs.Transfers.{source, destination, transfers, transfersFrom, bytesOf};
 use crate::answers::Transferred;
 use description::decode::is_write;
-use description::decode::wide;
 use description::words::Words;
 use description::workflow::Edge;
 use description::workflow::Refusal;
@@ -24,6 +23,13 @@ use security::answers::Verdict;
 use security::placements::cloud_of;
 use security::placements::moves;
 use security::placements::verdict;
+use sequences::wide;
+
+// The number that a buffer is refused with.
+const SHORT_BUFFER: u8 = 16;
+
+// Edge, datum, source and destination.
+const TRANSFER_BYTES: usize = 4;
 
 pub fn source_of(placement: [u8; 16], e: Edge) -> u8
     ensures { λ r. ⌜ r ≡ source placement e ⌝ }
@@ -75,7 +81,7 @@ fn put_transfer(placement: [u8; 16], i: u8, e: Edge, buffer: &mut [u8], at: usiz
     buffer[at + 1] = e.datum;
     buffer[at + 2] = source_of(placement, e);
     buffer[at + 3] = destination_of(placement, e);
-    at + 4
+    at + TRANSFER_BYTES
 }
 
 // All of them, from the front; the answer is how many.
@@ -91,7 +97,7 @@ fn put_transfers(w: &Words, placement: [u8; 16], buffer: &mut [u8]) -> usize
         at = put_transfer(placement, i, edge_at(w, wide(i)), buffer, at);
         i += 1;
     }
-    at / 4
+    at / TRANSFER_BYTES
 }
 
 // How many bytes the transfers need, where that is more than there is room for; otherwise 0. An edge makes one at most: only where room
@@ -99,14 +105,14 @@ fn put_transfers(w: &Words, placement: [u8; 16], buffer: &mut [u8]) -> usize
 fn missing(w: &Words, placement: [u8; 16], room: usize) -> usize
     ensures { λ r. ⌜ r ≡ cond (leb (length (bytesOf (transfers (describes (now (w .entry))) placement))) room) 0 (length (bytesOf (transfers (describes (now (w .entry))) placement))) ⌝ }
 {
-    if edge_count(w) * 4 <= room {
+    if edge_count(w) * TRANSFER_BYTES <= room {
         return 0;
     }
-    let needed = transfer_count(w, placement) * 4;
+    let needed = transfer_count(w, placement) * TRANSFER_BYTES;
     if needed <= room { 0 } else { needed }
 }
 
-// All transfers of a secure placement, or 16 with the room that they need.
+// All transfers of a secure placement, or a refusal with the room that they need.
 fn written(w: &Words, placement: [u8; 16], buffer: &mut [u8]) -> Transferred
     ensures { λ r. ⌜ transfersAnswer r ≡ andThen (fitted (length (now (buffer .entry))) (transfers (describes (now (w .entry))) placement)) (λ ts. ok (length ts)) ⌝ }
     ensures { λ r. ⌜ now (buffer .exit) ≡ bufferAfter (fitted (length (now (buffer .entry))) (transfers (describes (now (w .entry))) placement)) (now (buffer .entry)) ⌝ }
@@ -114,7 +120,7 @@ fn written(w: &Words, placement: [u8; 16], buffer: &mut [u8]) -> Transferred
     let needed = missing(w, placement, buffer.len());
     if needed != 0 {
         return Transferred::Refused(Refusal {
-            number: 16,
+            number: SHORT_BUFFER,
             place: needed,
         });
     }

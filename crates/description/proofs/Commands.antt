@@ -2,11 +2,11 @@
 use Prim.Native.Nat.{ℕ, _≤_, _<_}
 use native.Mathlib.Omega.{arith}
 use mathlib.Core.Path.{_≡_}
-use mathlib.Core.Bool.{Bool, true, false, not, _&&_, cond}
+use mathlib.Core.Bool.{Bool, true, false, not, _&&_}
 use mathlib.Core.List.{List, [], _∷_}
 use mathlib.Core.Option.{none}
 use lib.ListN.{length}
-use lib.Dec.{ltb, eqb}
+use lib.Dec.{ltb}
 use borrow.Author.Tests.{ltb-true, ltb-false, leb-false, not-false}
 use Rattle.sequences.specs.Lists.{any}
 use Rattle.sequences.proofs.Positions.{everywhere-snoc, everywhere-set}
@@ -17,7 +17,7 @@ use Rattle.description.specs.declared.workflow.Kind.the-variants.{Datum,
 use Rattle.description.specs.declared.workflow.Pin.the-variants.{Free}
 use Rattle.description.specs.declared.workflow.Way.{Way}
 use Rattle.description.specs.declared.workflow.Way.the-variants.{Reads, Writes}
-use Rattle.description.specs.Format.{Description, noCloud, noBlock, cloud as Format·cloud, block as Format·block, pinned, withCloud, withBlock, withEdge, withPin, namesService, namesDatum, namesBlock, namesCloud, isPinned, clash, u8At, u16At, u32At, tooHigh, edgeIn, Command, cloudAt, datumAt, serviceAt, edgeAt, pinAt, unknown, commandAt, firstFault, faultOf}
+use Rattle.description.specs.Format.{Description, noCloud, noBlock, cloud as Format·cloud, block as Format·block, pinned, withCloud, withBlock, withEdge, withPin, namesService, namesDatum, namesBlock, namesCloud, isPinned, clash, u8At, u16At, u32At, tooHigh, edgeIn, Command, cloudAt, datumAt, serviceAt, edgeAt, pinAt, commandAt, firstFault, faultOf}
 use Rattle.description.proofs.Turns.{each-command}
 
 -- the cloud and the blocks that a command declares

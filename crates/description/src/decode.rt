@@ -1,6 +1,6 @@
 // Reading a description's bytes, command by command.
 ghost use mathlib.Core.Path.{_≡_};
-ghost use Prim.Native.Nat.{_+_, _<_, _≤_};
+ghost use Prim.Native.Nat.{_+_, _<_};
 ghost use mathlib.Core.Bool.{cond};
 ghost use lib.Dec.{eqb};
 ghost use lib.ListN.{length};
@@ -32,6 +32,61 @@ use crate::workflow::put_block;
 use crate::workflow::put_cloud;
 use crate::workflow::put_edge;
 use crate::workflow::put_pin;
+use sequences::wide;
+
+// The numbers that a description is refused with.
+
+// Its bytes end inside a command, or without 00.
+const CUT_SHORT: u8 = 1;
+
+const UNKNOWN_COMMAND: u8 = 2;
+
+// A byte stands behind 00.
+const AFTER_THE_END: u8 = 3;
+
+// A cloud, a block or an edge too many.
+const TOO_MANY: u8 = 4;
+
+// A level, a location or a clearance too high.
+const OUT_OF_RANGE: u8 = 5;
+
+// A name that nothing has, or nothing of that kind.
+const UNDECLARED: u8 = 6;
+
+// A repeated edge, a second writer or a second pin.
+const CLASHING: u8 = 7;
+
+// No cloud, or no block.
+const NOTHING_DECLARED: u8 = 8;
+
+// The byte that each command begins with; 00 ends the description.
+const END: u8 = 0;
+
+const CLOUD_COMMAND: u8 = 1;
+
+const DATUM_COMMAND: u8 = 2;
+
+const SERVICE_COMMAND: u8 = 3;
+
+const READS_COMMAND: u8 = 4;
+
+const WRITES_COMMAND: u8 = 5;
+
+const PIN_COMMAND: u8 = 6;
+
+// How many bytes each command has.
+const CLOUD_WIDTH: usize = 10;
+
+const DATUM_WIDTH: usize = 6;
+
+const SERVICE_WIDTH: usize = 7;
+
+const EDGE_WIDTH: usize = 3;
+
+const PIN_WIDTH: usize = 3;
+
+// Levels, locations and clearances go up to it.
+const HIGHEST_LEVEL: u8 = 15;
 
 // What is wrong with one command: nothing, or the number that it is refused with.
 pub enum Checked {
@@ -43,12 +98,6 @@ pub enum Checked {
 pub struct Step {
     pub fault: Checked,
     pub width: usize,
-}
-
-pub fn wide(x: u8) -> usize
-    ensures { λ r. ⌜ r ≡ x ⌝ }
-{
-    x as usize
 }
 
 // Numbers in bytes, most significant first.
@@ -174,14 +223,14 @@ fn taken(width: usize) -> Step
 fn cloud_step(s: &[u8], w: &mut Words) -> Step
     ensures { λ r. ⌜ Steps (now (s .entry)) (cloudAt (now (s .entry)) (describes (now (w .entry)))) (describes (now (w .exit))) r ⌝ }
 {
-    if s.len() < 10 {
-        return faulty(1, 10);
+    if s.len() < CLOUD_WIDTH {
+        return faulty(CUT_SHORT, CLOUD_WIDTH);
     }
     if MOST_CLOUDS <= cloud_count(w) {
-        return faulty(4, 10);
+        return faulty(TOO_MANY, CLOUD_WIDTH);
     }
-    if 15 < s[1] {
-        return faulty(5, 10);
+    if HIGHEST_LEVEL < s[1] {
+        return faulty(OUT_OF_RANGE, CLOUD_WIDTH);
     }
     let c = Cloud {
         level: s[1],
@@ -191,20 +240,20 @@ fn cloud_step(s: &[u8], w: &mut Words) -> Step
         cpu: be16(s, 8),
     };
     put_cloud(w, c);
-    taken(10)
+    taken(CLOUD_WIDTH)
 }
 
 fn datum_step(s: &[u8], w: &mut Words) -> Step
     ensures { λ r. ⌜ Steps (now (s .entry)) (datumAt (now (s .entry)) (describes (now (w .entry)))) (describes (now (w .exit))) r ⌝ }
 {
-    if s.len() < 6 {
-        return faulty(1, 6);
+    if s.len() < DATUM_WIDTH {
+        return faulty(CUT_SHORT, DATUM_WIDTH);
     }
     if MOST_BLOCKS <= block_count(w) {
-        return faulty(4, 6);
+        return faulty(TOO_MANY, DATUM_WIDTH);
     }
-    if 15 < s[1] {
-        return faulty(5, 6);
+    if HIGHEST_LEVEL < s[1] {
+        return faulty(OUT_OF_RANGE, DATUM_WIDTH);
     }
     let b = Block {
         level: s[1],
@@ -215,23 +264,23 @@ fn datum_step(s: &[u8], w: &mut Words) -> Step
         pin: Pin::Free,
     };
     put_block(w, b);
-    taken(6)
+    taken(DATUM_WIDTH)
 }
 
 fn service_step(s: &[u8], w: &mut Words) -> Step
     ensures { λ r. ⌜ Steps (now (s .entry)) (serviceAt (now (s .entry)) (describes (now (w .entry)))) (describes (now (w .exit))) r ⌝ }
 {
-    if s.len() < 7 {
-        return faulty(1, 7);
+    if s.len() < SERVICE_WIDTH {
+        return faulty(CUT_SHORT, SERVICE_WIDTH);
     }
     if MOST_BLOCKS <= block_count(w) {
-        return faulty(4, 7);
+        return faulty(TOO_MANY, SERVICE_WIDTH);
     }
-    if 15 < s[1] {
-        return faulty(5, 7);
+    if HIGHEST_LEVEL < s[1] {
+        return faulty(OUT_OF_RANGE, SERVICE_WIDTH);
     }
-    if 15 < s[2] {
-        return faulty(5, 7);
+    if HIGHEST_LEVEL < s[2] {
+        return faulty(OUT_OF_RANGE, SERVICE_WIDTH);
     }
     let b = Block {
         level: s[1],
@@ -242,25 +291,25 @@ fn service_step(s: &[u8], w: &mut Words) -> Step
         pin: Pin::Free,
     };
     put_block(w, b);
-    taken(7)
+    taken(SERVICE_WIDTH)
 }
 
 fn edge_step(way: Way, s: &[u8], w: &mut Words) -> Step
     ensures { λ r. ⌜ Steps (now (s .entry)) (edgeAt way (now (s .entry)) (describes (now (w .entry)))) (describes (now (w .exit))) r ⌝ }
 {
-    if s.len() < 3 {
-        return faulty(1, 3);
+    if s.len() < EDGE_WIDTH {
+        return faulty(CUT_SHORT, EDGE_WIDTH);
     }
     if MOST_EDGES <= edge_count(w) {
-        return faulty(4, 3);
+        return faulty(TOO_MANY, EDGE_WIDTH);
     }
     let service = s[1];
     let datum = s[2];
     if !names_service(w, wide(service)) {
-        return faulty(6, 3);
+        return faulty(UNDECLARED, EDGE_WIDTH);
     }
     if !names_datum(w, wide(datum)) {
-        return faulty(6, 3);
+        return faulty(UNDECLARED, EDGE_WIDTH);
     }
     let e = Edge {
         way,
@@ -268,40 +317,40 @@ fn edge_step(way: Way, s: &[u8], w: &mut Words) -> Step
         datum,
     };
     if clashes_with_any(w, e) {
-        return faulty(7, 3);
+        return faulty(CLASHING, EDGE_WIDTH);
     }
     put_edge(w, e);
-    taken(3)
+    taken(EDGE_WIDTH)
 }
 
 fn pin_step(s: &[u8], w: &mut Words) -> Step
     ensures { λ r. ⌜ Steps (now (s .entry)) (pinAt (now (s .entry)) (describes (now (w .entry)))) (describes (now (w .exit))) r ⌝ }
 {
-    if s.len() < 3 {
-        return faulty(1, 3);
+    if s.len() < PIN_WIDTH {
+        return faulty(CUT_SHORT, PIN_WIDTH);
     }
     let b = wide(s[1]);
     let k = s[2];
     if block_count(w) <= b {
-        return faulty(6, 3);
+        return faulty(UNDECLARED, PIN_WIDTH);
     }
     if cloud_count(w) <= wide(k) {
-        return faulty(6, 3);
+        return faulty(UNDECLARED, PIN_WIDTH);
     }
     let old = block_at(w, b);
     let p = old.pin;
     if is_pinned(p) {
-        return faulty(7, 3);
+        return faulty(CLASHING, PIN_WIDTH);
     }
     put_pin(w, b, k);
-    taken(3)
+    taken(PIN_WIDTH)
 }
 
 // What an edge does, by its command byte: 04 reads, 05 writes.
 fn way_of(c: u8) -> Way
     ensures { λ r. ⌜ r ≡ cond (eqb c 4) Way.Reads Way.Writes ⌝ }
 {
-    if c == 4 {
+    if c == READS_COMMAND {
         return Way::Reads;
     }
     Way::Writes
@@ -314,23 +363,23 @@ fn command_step(s: &[u8], w: &mut Words) -> Step
     ensures { λ r. ⌜ Steps (now (s .entry)) (commandAt (now (s .entry)) (describes (now (w .entry)))) (describes (now (w .exit))) r ⌝ }
 {
     let c = s[0];
-    if c == 1 {
+    if c == CLOUD_COMMAND {
         return cloud_step(s, w);
     }
-    if c == 2 {
+    if c == DATUM_COMMAND {
         return datum_step(s, w);
     }
-    if c == 3 {
+    if c == SERVICE_COMMAND {
         return service_step(s, w);
     }
-    if c == 6 {
+    if c == PIN_COMMAND {
         return pin_step(s, w);
     }
-    if c < 4 {
-        return faulty(2, 1);
+    if c < READS_COMMAND {
+        return faulty(UNKNOWN_COMMAND, 1);
     }
-    if 5 < c {
-        return faulty(2, 1);
+    if WRITES_COMMAND < c {
+        return faulty(UNKNOWN_COMMAND, 1);
     }
     edge_step(way_of(c), s, w)
 }
@@ -348,11 +397,11 @@ fn read_commands(s: &[u8], w: &mut Words) -> Outcome
     let mut at = 0;
     begin(w);
     while at < s.len() {
-        if s[at] == 0 {
+        if s[at] == END {
             if at + 1 == s.len() {
                 return Outcome::Accepted;
             }
-            return refuse(3, at + 1);
+            return refuse(AFTER_THE_END, at + 1);
         }
         let step = command_step(&s[at..], w);
         let fault = step.fault;
@@ -361,7 +410,7 @@ fn read_commands(s: &[u8], w: &mut Words) -> Outcome
         }
         at += step.width;
     }
-    refuse(1, at)
+    refuse(CUT_SHORT, at)
 }
 
 // The whole description, with a cloud and a block at least.
@@ -373,10 +422,10 @@ fn read_whole(s: &[u8], w: &mut Words) -> Outcome
         return outcome;
     };
     if cloud_count(w) == 0 {
-        return refuse(8, s.len());
+        return refuse(NOTHING_DECLARED, s.len());
     }
     if block_count(w) == 0 {
-        return refuse(8, s.len());
+        return refuse(NOTHING_DECLARED, s.len());
     }
     Outcome::Accepted
 }

@@ -2,15 +2,15 @@
 use Prim.Native.Nat.{ℕ}
 use mathlib.Core.Path.{_≡_, refl, ap}
 use Rattle.description.specs.Format.{Description, decode}
-use Rattle.rules.specs.Inputs.{flat}
+use Rattle.judging.specs.Inputs.{flat}
 use Rattle.security.specs.Soundness.{covers, breaks2, breaks3, breaks4, mayStand, choicesOf, candidates, count, sound, read}
 use Rattle.security.specs.Placements.{moves, exposes, breaks16, breaks17, badPosition, judge}
 use Rattle.costs.specs.Transfers.{transfers}
 use Rattle.costs.specs.Cost.{gigabytes, cost}
-use Rattle.rules.specs.Options.{option, sameOption}
-use Rattle.rules.specs.Calls.{readCall, judgeCall}
+use Rattle.options.specs.Options.{option, sameOption}
+use Rattle.judging.specs.Calls.{readCall, judgeCall}
 use Rattle.security.proofs.Candidates.{count-is-length}
-use Rattle.lister.specs.Rows.{securePlacements, census, stands, rows, draw}
+use Rattle.survey.specs.Rows.{securePlacements, census, stands, rows, draw}
 use Rattle.lister.specs.Calls.{censusCall, drawCall}
 use Rattle.lister.specs.Interview.{Interview, candidatesOf}
 use Rattle.sequences.specs.Results.{Result, ok, refused, andThen}

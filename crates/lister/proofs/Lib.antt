@@ -1,10 +1,5 @@
-pub mod Counting
-pub mod Cursors
-pub mod Drawing
+pub mod Answering
+pub mod Chained
+pub mod DrawsListEveryRow
 pub mod Interview
-pub mod ItemThree
-pub mod Joins
 pub mod Refusals
-pub mod RowOrder
-pub mod Standing
-pub mod Walked

@@ -6,8 +6,8 @@ use Rattle.sequences.specs.Results.{ok, RefusalWithin}
 use Rattle.sequences.proofs.Results.{within-andThen}
 use Rattle.security.specs.Soundness.{read}
 use Rattle.security.proofs.Refusals.{read-within}
-use Rattle.lister.specs.declared.Cursor.{Cursor}
-use Rattle.lister.specs.Rows.{census, draw}
+use Rattle.survey.specs.declared.Cursor.{Cursor}
+use Rattle.survey.specs.Rows.{census, draw}
 use Rattle.lister.specs.Calls.{censusCall, drawCall}
 
 pub censusCall-within : (s : List ℕ) → RefusalWithin 12 decidingBytes (censusCall s)

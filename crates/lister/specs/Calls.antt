@@ -3,9 +3,9 @@ use Prim.Native.Nat.{ℕ}
 use mathlib.Core.List.{List}
 use mathlib.Core.Option.{Option}
 use Rattle.security.specs.Soundness.{read}
-use Rattle.lister.specs.declared.Row.{Row}
-use Rattle.lister.specs.declared.Cursor.{Cursor}
-use Rattle.lister.specs.Rows.{Census, census, draw}
+use Rattle.survey.specs.declared.Row.{Row}
+use Rattle.survey.specs.declared.Cursor.{Cursor}
+use Rattle.survey.specs.Rows.{Census, census, draw}
 use Rattle.sequences.specs.Results.{Result, ok, andThen}
 
 unfoldable pub censusCall : List ℕ → Result Census

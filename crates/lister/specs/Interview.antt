@@ -6,31 +6,15 @@ use mathlib.Core.List.{List, [], _∷_, _++_, map}
 use mathlib.Core.Option.{none}
 use lib.ListN.{length}
 use Rattle.description.specs.Format.{Description, decode}
-use Rattle.rules.specs.Inputs.{cloud, datum, end, flat, place}
+use Rattle.judging.specs.Inputs.{m, cloud, datum, end, flat, place}
 use Rattle.security.specs.Soundness.{read, candidates}
 use Rattle.costs.specs.Cost.{gigabytes}
-use Rattle.rules.specs.Options.{sameOption}
-use Rattle.rules.specs.Calls.{Counts, readCall, judgeCall}
-use Rattle.lister.specs.declared.Row.{Row}
-use Rattle.lister.specs.Rows.{rows}
+use Rattle.options.specs.Options.{sameOption}
+use Rattle.judging.specs.Calls.{Counts, readCall, judgeCall}
+use Rattle.survey.specs.declared.Row.{Row}
+use Rattle.survey.specs.Rows.{rows}
 use Rattle.lister.specs.Calls.{censusCall, drawCall}
 use Rattle.sequences.specs.Results.{Result, ok, refused, andThen}
-
--- description M, 65 bytes
-abbrev pub m : List ℕ
-m =
-    0x01 ∷ 0x00 ∷ 0x00 ∷ 0x0a ∷ 0x00 ∷ 0x0a ∷ 0x00 ∷ 0x0a ∷ 0x00 ∷ 0x0a ∷
-    0x01 ∷ 0x01 ∷ 0x00 ∷ 0x0a ∷ 0x00 ∷ 0x0a ∷ 0x00 ∷ 0x0a ∷ 0x00 ∷ 0x0a ∷
-    0x02 ∷ 0x01 ∷ 0x00 ∷ 0x64 ∷ 0x00 ∷ 0x0c ∷
-    0x03 ∷ 0x00 ∷ 0x01 ∷ 0x00 ∷ 0x00 ∷ 0x00 ∷ 0x64 ∷
-    0x02 ∷ 0x00 ∷ 0x00 ∷ 0x32 ∷ 0x00 ∷ 0x00 ∷
-    0x03 ∷ 0x00 ∷ 0x00 ∷ 0x00 ∷ 0x00 ∷ 0x00 ∷ 0x32 ∷
-    0x02 ∷ 0x00 ∷ 0x00 ∷ 0x0a ∷ 0x00 ∷ 0x0c ∷
-    0x04 ∷ 0x01 ∷ 0x00 ∷
-    0x05 ∷ 0x01 ∷ 0x02 ∷
-    0x04 ∷ 0x03 ∷ 0x02 ∷
-    0x05 ∷ 0x03 ∷ 0x04 ∷
-    0x00 ∷ []
 
 -- a row, by its cost and its placement
 abbrev pub row : ℕ → List ℕ → Row

@@ -1,7 +1,5 @@
 pub mod Answers
 pub mod Calls
+pub mod Chain
+pub mod DrawsListEveryRow
 pub mod Interview
-pub mod ItemThree
-pub mod Joining
-pub mod Rows
-pub mod Seeing

@@ -5,9 +5,9 @@ use Rattle.security.specs.Soundness.{covers, breaks2, breaks3, breaks4, mayStan
 use Rattle.security.specs.Placements.{moves, exposes, breaks16, breaks17, badPosition, judge}
 use Rattle.costs.specs.Transfers.{transfers}
 use Rattle.costs.specs.Cost.{gigabytes, cost}
-use Rattle.rules.specs.Options.{option, sameOption}
-use Rattle.lister.specs.Rows.{securePlacements, stands, rows}
-use Rattle.listing.specs.Lines.{digits, decimal}
+use Rattle.options.specs.Options.{option, sameOption}
+use Rattle.survey.specs.Rows.{securePlacements, stands, rows}
+use Rattle.list_text.specs.Lines.{digits, decimal}
 use Rattle.listoptions.specs.Printed.{printed, Examples}
 
 pub examples : Examples

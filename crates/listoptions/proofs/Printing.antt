@@ -15,16 +15,18 @@ use Rattle.security.proofs.Accepted.{read-admitted, read-front}
 use Rattle.packing.specs.Packing.{digits as clouds}
 use Rattle.packing.proofs.Digits.{digits-length}
 use Rattle.sorting.specs.Rows.{flat}
-use Rattle.sorting.proofs.Rows.{length-flat}
-use Rattle.lister.specs.declared.Row.{Row}
-use Rattle.lister.specs.Rows.{rows}
-use Rattle.enumeration.specs.WholeList.{rowWords, listed, needed, listCall, rowsAfter}
-use Rattle.enumeration.proofs.Answers.{call-goes, rows-go, fitting as rowsFit, fits-room}
-use Rattle.enumeration.proofs.RowsInWords.{rows-few, words-row}
-use Rattle.listing.specs.Lines.{ascii, digit, decimal, rowLine, optionsLine, refusalLine, written}
-use Rattle.listing.specs.RowLines.{wordsLine, linesOf, fitting, rowsText}
-use Rattle.listing.proofs.RowLines.{lines-few}
-use Rattle.listing.proofs.Writing.{then-text}
+use Rattle.sorting.proofs.Rows.{flat-none, flat-more, length-flat}
+use Rattle.survey.specs.declared.Row.{Row}
+use Rattle.survey.specs.Rows.{rows}
+use Rattle.whole_list.specs.WholeList.{listed, listCall, rowsAfter}
+use Rattle.survey.specs.RowWords.{rowWords, needed}
+use Rattle.whole_list.proofs.Answers.{call-goes, rows-go, fitting as rowsFit, fits-room}
+use Rattle.whole_list.proofs.Sorted.{listed-words}
+use Rattle.survey.proofs.RowsInWords.{rows-few, words-row}
+use Rattle.list_text.specs.Lines.{ascii, digit, decimal, rowLine, optionsLine, refusalLine, written}
+use Rattle.list_text.specs.RowLines.{wordsLine, linesOf, fitting, rowsText}
+use Rattle.list_text.proofs.RowLines.{words-line, lines-few}
+use Rattle.list_text.proofs.Writing.{then-text}
 use Rattle.listoptions.specs.Printed.{rowLines, printedFor, printed}
 use Rattle.listoptions.specs.Making.{heldWords, heldBytes, rowsOf, blocksOf, lastLine}
 
@@ -39,9 +41,10 @@ taken-below m (suc k) (x ∷ l) h (suc i) = taken-below m k l (λ j. h (suc j)) 
 lines-of-rows : (d : Description) (n : ℕ) (rs : List Row)
     → ((r : Row) → List·Memᴰ r rs → wordsLine n (rowWords d r .0) (rowWords d r .1) ≡ rowLine (r .cost) (r .placement) n)
     → linesOf n (flat (map (rowWords d) rs)) ≡ rowLines n rs
-unfolding flat
-lines-of-rows d n [] h = refl
-lines-of-rows d n (r ∷ rs) h = ap₂ _++_ (h r (List·Memᴰ·head refl)) (lines-of-rows d n rs (λ x m. h x (List·Memᴰ·tail m)))
+lines-of-rows d n [] h = ap (linesOf n) flat-none
+lines-of-rows d n (r ∷ rs) h =
+    ap (linesOf n) (flat-more (rowWords d r) (map (rowWords d) rs)) ∙
+    ap₂ _++_ (h r (List·Memᴰ·head refl)) (lines-of-rows d n rs (λ x m. h x (List·Memᴰ·tail m)))
 
 module _ (d : Description) (a : Admitted d) where
   abbrev n : ℕ
@@ -49,21 +52,18 @@ module _ (d : Description) (a : Admitted d) where
 
   -- the blocks of a row are the clouds that its second word packs
   row-line : (r : Row) → List·Memᴰ r (rows d) → wordsLine n (rowWords d r .0) (rowWords d r .1) ≡ rowLine (r .cost) (r .placement) n
-  unfolding wordsLine
   row-line r m =
       let packed = clouds n (rowWords d r .1) in
       let size = digits-length n (rowWords d r .1) in
       let same : take n packed ≡ take n (r .placement) =
       take-all n packed (omega arith) ∙ sym (take-at packed (replicate (16 - n) 0) n size) ∙ ap (take n) (words-row d a r m) in
-      ap (λ l. decimal (r .cost) ++ ascii " " ++ map digit l ++ ascii "\n") same
+      words-line n (rowWords d r .0) (rowWords d r .1) ∙ ap (λ l. decimal (r .cost) ++ ascii " " ++ map digit l ++ ascii "\n") same
 
   listed-length : length (listed d) ≡ needed d
-  unfolding listed
-  listed-length = length-flat (map (rowWords d) (rows d)) ∙ ap (λ (k : ℕ). k * 2) (length-map (rows d) (rowWords d))
+  listed-length = ap length (listed-words d) ∙ length-flat (map (rowWords d) (rows d)) ∙ ap (λ (k : ℕ). k * 2) (length-map (rows d) (rowWords d))
 
   listed-lines : linesOf n (listed d) ≡ rowLines n (rows d)
-  unfolding listed
-  listed-lines = lines-of-rows d n (rows d) row-line
+  listed-lines = ap (linesOf n) (listed-words d) ∙ lines-of-rows d n (rows d) row-line
 
   few : length (rows d) ≤ 65536
   few = omega (arith, rows-few d a, a .few)

@@ -1,7 +1,7 @@
 -- How the program comes to what it prints: the rows that List leaves, and a last line for what it answers.
 use Prim.Native.Nat.{ℕ}
 use mathlib.Core.List.{List}
-use Rattle.listing.specs.Lines.{optionsLine, refusalLine}
+use Rattle.list_text.specs.Lines.{optionsLine, refusalLine}
 use Rattle.sequences.specs.Results.{Result, ok, refused}
 
 -- words for 65,536 rows, as many as there can be candidates, and bytes for their lines, of at most 38 bytes each, and a last one

@@ -7,10 +7,10 @@ use lib.ListN.{length}
 use Rattle.sequences.specs.Results.{Result, ok, refused}
 use Rattle.description.specs.Format.{Description}
 use Rattle.security.specs.Soundness.{read}
-use Rattle.lister.specs.declared.Row.{Row}
-use Rattle.lister.specs.Rows.{rows}
-use Rattle.lister.specs.Interview.{m}
-use Rattle.listing.specs.Lines.{ascii, rowLine, optionsLine, refusalLine}
+use Rattle.survey.specs.declared.Row.{Row}
+use Rattle.survey.specs.Rows.{rows}
+use Rattle.judging.specs.Inputs.{m}
+use Rattle.list_text.specs.Lines.{ascii, rowLine, optionsLine, refusalLine}
 
 -- the lines of rows, one behind the other
 abbrev pub rowLines : (blocks : ℕ) → List Row → List ℕ

@@ -3,21 +3,15 @@
 ghost use Prim.Native.Nat.{_+_, _≤_};
 ghost use mathlib.Core.Path.{_≡_};
 ghost use lib.ListN.{length};
-ghost use Rattle.enumeration.specs.WholeList.{listAnswer};
-ghost use Rattle.listing.specs.Lines.{written};
+ghost use Rattle.whole_list.specs.WholeList.{listAnswer};
+ghost use Rattle.list_text.specs.Lines.{written};
 ghost use Rattle.listoptions.specs.Making.{heldWords, heldBytes, rowsOf, blocksOf, lastLine};
 ghost use Rattle.listoptions.specs.Printed.{printed};
-use enumeration::Extent;
-use enumeration::Listed;
 use libc::STDIN_FILENO;
 use libc::STDOUT_FILENO;
-use listing::rows::put_rows;
-
-// Nothing is read, but a descriptor that is closed or a folder's fails as it would for more.
-fn can_read() -> bool {
-    let mut nothing = [0u8; 1];
-    libc::read(STDIN_FILENO, &mut nothing[..0]) >= 0
-}
+use list_text::rows::put_rows;
+use whole_list::Extent;
+use whole_list::Listed;
 
 // How many rows are printed, and how many digits each has: of what is refused there are none.
 fn extent_of(listed: Listed) -> Extent
@@ -36,8 +30,8 @@ fn put_last(listed: Listed, text: &mut [u8], at: usize) -> usize
     ensures { λ _. ⌜ now (text .exit) ≡ written (lastLine (listAnswer listed)) (now (text .entry)) at ⌝ }
 {
     match listed {
-        Listed::Rows(extent) => listing::put_options(extent.rows as u64, text, at),
-        Listed::Refused(r) => listing::put_refusal(r.number, r.place as u64, text, at),
+        Listed::Rows(extent) => list_text::put_options(extent.rows as u64, text, at),
+        Listed::Refused(r) => list_text::put_refusal(r.number, r.place as u64, text, at),
     }
 }
 
@@ -47,7 +41,7 @@ fn put_list(description: &[u8], rows: &mut [u64], scratch: &mut [u64], text: &mu
     ensures { λ r. ⌜ r ≡ length (printed (now (description .entry))) ⌝ }
     ensures { λ _. ⌜ now (text .exit) ≡ written (printed (now (description .entry))) (now (text .entry)) 0 ⌝ }
 {
-    let listed = enumeration::list(description, rows, scratch);
+    let listed = whole_list::list(description, rows, scratch);
     let extent = extent_of(listed);
     let end = put_rows(&rows[..extent.rows * 2], extent.blocks, text);
     put_last(listed, text, end)
@@ -77,7 +71,7 @@ fn bytes() -> [u8; 2490432]
 
 // Of longer input the first `decidingBytes` decide (`printed-front`): what does not fit into the buffer need not be read.
 fn main() {
-    if !can_read() {
+    if !standard_input::can_read() {
         os::fail(b"listoptions: standard input");
         return;
     }

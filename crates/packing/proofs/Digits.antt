@@ -25,6 +25,16 @@ eight (suc n) =
     let e : 3 * suc n ≡ 3 * n + 3 = omega arith in
     rw (e, pow-add 2 (3 * n) 3, pow-suc 8 n, eight n)
 
+-- of no blocks there are none
+pub digits-none : (p : ℕ) → digits 0 p ≡ []
+unfolding digits
+digits-none p = refl
+
+-- the last digit of one block more
+pub digits-last : (n p : ℕ) → digits (suc n) p ≡ digits n (p / 8) ++ (p % 8 ∷ [])
+unfolding digits
+digits-last n p = refl
+
 pub digits-length : (n p : ℕ) → length (digits n p) ≡ n
 unfolding digits
 digits-length zero p = refl

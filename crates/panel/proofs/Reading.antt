@@ -6,12 +6,12 @@ use mathlib.Core.List.{List}
 use Rattle.sequences.specs.Results.{Result, ok, refused, RefusalWithin}
 use Rattle.sequences.proofs.Results.{within-more}
 use Rattle.description.specs.Bytes.{Bytes, decidingBytes}
-use Rattle.rules.specs.Calls.{readCall, judgeCall, transfersCall}
-use Rattle.rules.proofs.Refusals.{readCall-within, judgeCall-within, transfersCall-within}
+use Rattle.judging.specs.Calls.{readCall, judgeCall, transfersCall}
+use Rattle.judging.proofs.Refusals.{readCall-within, judgeCall-within, transfersCall-within}
 use Rattle.lister.specs.Calls.{censusCall, drawCall}
 use Rattle.lister.proofs.Refusals.{censusCall-within, drawCall-within}
-use Rattle.enumeration.specs.WholeList.{listCall}
-use Rattle.enumeration.proofs.Refusals.{listCall-within}
+use Rattle.whole_list.specs.WholeList.{listCall}
+use Rattle.whole_list.proofs.Refusals.{listCall-within}
 use Rattle.panel.specs.Statements.{Readable, NothingLost}
 
 module _ {A : Type 0} where

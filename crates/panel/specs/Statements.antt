@@ -3,10 +3,10 @@ use Prim.Native.Nat.{ℕ, _/_, _%_, _<_}
 use mathlib.Core.Path.{_≡_}
 use mathlib.Core.List.{List}
 use Rattle.sequences.specs.Results.{Result, ok, refused}
-use Rattle.rules.specs.Calls.{readCall, judgeCall, transfersCall}
-use Rattle.lister.specs.declared.Cursor.{Cursor}
+use Rattle.judging.specs.Calls.{readCall, judgeCall, transfersCall}
+use Rattle.survey.specs.declared.Cursor.{Cursor}
 use Rattle.lister.specs.Calls.{censusCall, drawCall}
-use Rattle.enumeration.specs.WholeList.{listCall}
+use Rattle.whole_list.specs.WholeList.{listCall}
 use Rattle.panel.specs.Statuses.{status, refusalStatus}
 
 -- the status of an answer is 0; that of a refusal is not, its low 8 bits are the number, and the others are the place

@@ -3,9 +3,13 @@ use Prim.Native.Nat.{ℕ, _+_, _*_, _-_, _^_, min}
 use mathlib.Core.List.{List}
 use Rattle.sequences.specs.Results.{Result, ok, refused}
 
+-- the highest place that 56 bits hold
+abbrev pub highestPlace : ℕ
+highestPlace = 2 ^ 56 - 1
+
 -- a refusal: the number in the low 8 bits, the place in the other 56; a place that does not fit is the highest that does
 abbrev pub refusalStatus : (number place : ℕ) → ℕ
-refusalStatus number place = number + 256 * min place (2 ^ 56 - 1)
+refusalStatus number place = number + 256 * min place highestPlace
 
 -- 0 where the call is answered
 abbrev pub status : {A : Type 0} → Result A → ℕ

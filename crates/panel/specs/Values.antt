@@ -3,11 +3,11 @@ use Prim.Native.Nat.{ℕ}
 use mathlib.Core.List.{List, [], _∷_}
 use mathlib.Core.Option.{Option, none, some}
 use lib.ListN.{length}
-use Rattle.rules.specs.Calls.{Counts}
+use Rattle.judging.specs.Calls.{Counts}
 use Rattle.costs.specs.Transfers.{Transfer}
-use Rattle.lister.specs.declared.Row.{Row}
+use Rattle.survey.specs.declared.Row.{Row}
 use Rattle.lister.specs.Answers.{rowBeside}
-use Rattle.lister.specs.Rows.{Census}
+use Rattle.survey.specs.Rows.{Census}
 use Rattle.sequences.specs.Results.{ok}
 
 -- Read: clouds, blocks, edges

@@ -3,34 +3,37 @@
 ghost use mathlib.Core.Path.{_≡_};
 ghost use Prim.Native.Nat.{_-_, _^_, min};
 ghost use lib.ListN.{length};
-ghost use Rattle.rules.specs.Answers.{readAnswer};
+ghost use Rattle.judging.specs.Answers.{readAnswer};
 ghost use Rattle.security.specs.Answers.{judgeAnswer};
 ghost use Rattle.costs.specs.Answers.{transfersAnswer};
-ghost use Rattle.rules.specs.Calls.{readCall, judgeCall, transfersCall};
+ghost use Rattle.judging.specs.Calls.{readCall, judgeCall, transfersCall};
 ghost use Rattle.costs.specs.Transfers.{bufferAfter};
 ghost use Rattle.lister.specs.Answers.{censusAnswer, drawAnswer};
 ghost use Rattle.lister.specs.Calls.{censusCall, drawCall};
-ghost use Rattle.enumeration.specs.WholeList.{listAnswer, listCall, rowsAfter, scratchAfter};
-ghost use Rattle.panel.specs.Statuses.{refusalStatus, status, valuesAfter};
+ghost use Rattle.whole_list.specs.WholeList.{listAnswer, listCall, rowsAfter, scratchAfter};
+ghost use Rattle.panel.specs.Statuses.{highestPlace, refusalStatus, status, valuesAfter};
 ghost use Rattle.panel.specs.Values.{counts as countValues, transferCount, figures as figureValues, rowOrNone, rowBytes, extent as extentValues, one};
 use costs::answers::Transferred;
 use description::workflow::Refusal;
-use enumeration::Listed;
+use judging::answers::Acceptance;
 use lister::Answer;
 use lister::Counted;
-use lister::Cursor;
 use lister::Drawn;
-use rules::answers::Acceptance;
 use security::answers::Verdict;
+use survey::Cursor;
+use whole_list::Listed;
 
-// A place has 56 bits of a status: one that does not fit is the highest that does.
+// A place has 56 bits of a status, and this is the highest of them: 2^56 - 1.
+const HIGHEST_PLACE: usize = 72057594037927935;
+
+// A place that does not fit is the highest that does.
 fn kept_place(place: usize) -> u64
-    ensures { λ r. ⌜ r ≡ min place (2 ^ 56 - 1) ⌝ }
+    ensures { λ r. ⌜ r ≡ min place highestPlace ⌝ }
 {
-    if place < 72057594037927935 {
+    if place < HIGHEST_PLACE {
         place as u64
     } else {
-        72057594037927935
+        HIGHEST_PLACE as u64
     }
 }
 
@@ -140,7 +143,7 @@ pub extern "C" fn panel_read(description: &[u8], counts: &mut [u64; 3]) -> u64
     ensures { λ r. ⌜ r ≡ status (readCall (now (description .entry))) ⌝ }
     ensures { λ _. ⌜ now (counts .exit) ≡ valuesAfter countValues (readCall (now (description .entry))) (now (counts .entry)) ⌝ }
 {
-    let answer = rules::read(description);
+    let answer = judging::read(description);
     put_counts(answer, counts)
 }
 
@@ -150,7 +153,7 @@ pub extern "C" fn panel_judge(description: &[u8], placement: &[u8; 16]) -> u64
     ensures { λ r. ⌜ r ≡ status (judgeCall (now (description .entry)) (now (placement .entry))) ⌝ }
 {
     let bytes = *placement;
-    let verdict = rules::judge(description, bytes);
+    let verdict = judging::judge(description, bytes);
     verdict_status(verdict)
 }
 
@@ -167,7 +170,7 @@ pub extern "C" fn panel_transfers(
     ensures { λ _. ⌜ now (count .exit) ≡ valuesAfter transferCount (transfersCall (now (description .entry)) (now (placement .entry)) (length (now (buffer .entry)))) (now (count .entry)) ⌝ }
 {
     let bytes = *placement;
-    let answer = rules::transfers(description, bytes, buffer);
+    let answer = judging::transfers(description, bytes, buffer);
     put_count(answer, count)
 }
 
@@ -218,6 +221,6 @@ pub extern "C" fn panel_list(
     ensures { λ _. ⌜ now (scratch .exit) ≡ scratchAfter (now (description .entry)) (min (length (now (rows .entry))) (length (now (scratch .entry)))) (now (scratch .entry)) ⌝ }
     ensures { λ _. ⌜ now (extent .exit) ≡ valuesAfter extentValues (listCall (now (description .entry)) (min (length (now (rows .entry))) (length (now (scratch .entry))))) (now (extent .entry)) ⌝ }
 {
-    let listed = enumeration::list(description, rows, scratch);
+    let listed = whole_list::list(description, rows, scratch);
     put_extent(listed, extent)
 }

@@ -12,7 +12,8 @@ use Rattle.description.specs.Format.{Description}
 use Rattle.security.specs.Soundness.{candidates, choicesOf, count, mayStand, positions}
 use Rattle.security.specs.Placements.{judge, secure}
 use Rattle.security.specs.Statements.{Good, Placed}
-use Rattle.security.proofs.Deciding.{may-stand, position-at}
+use Rattle.security.proofs.Deciding.{position-at}
+use Rattle.security.proofs.Standing.{may-stand}
 use Rattle.security.proofs.Judging.{never-13, judge-candidate}
 use Rattle.sequences.specs.Ascending.{Ascending, Once}
 use Rattle.sequences.specs.Lists.{keep, below, before, sequences}

@@ -6,20 +6,18 @@ use mathlib.Core.Logic.{_↔_}
 use mathlib.Core.Bool.{Bool, true, false, not, _&&_, true≢false, false≢true}
 use mathlib.Core.List.{List}
 use mathlib.Core.Option.{none, some}
-use lib.Dec.{eqb}
-use lib.ListN.{length, getD}
-use borrow.Author.Tests.{ltb-true, ltb-false, lt-ltb, leb-true, leb-false, le-leb, lt-leb, eqb-true, eqb-false, eq-eqb, ne-eqb, not-true, not-false}
+use lib.ListN.{getD}
+use borrow.Author.Tests.{leb-false, lt-leb, eqb-false, ne-eqb, not-true, not-false}
 use Rattle.description.specs.declared.workflow.Edge.{Edge}
-use Rattle.description.specs.declared.workflow.Pin.{Pin}
-use Rattle.description.specs.declared.workflow.Pin.the-variants.{Free, To}
 use Rattle.description.specs.declared.workflow.Way.{Way}
 use Rattle.description.specs.declared.workflow.Way.the-variants.{Reads, Writes}
-use Rattle.description.specs.Format.{Description, block, edge, noEdge, namesBlock, namesCloud, isPinned, isWrite, sameWay}
-use Rattle.security.specs.Soundness.{covers, cloudLevel, blockLevel, mayStand, pinAllows, positions}
+use Rattle.description.specs.Format.{Description, edge, noEdge, isWrite, sameWay}
+use Rattle.security.specs.Soundness.{covers, cloudLevel, blockLevel, positions}
 use Rattle.security.specs.Placements.{serviceCloud, moves, exposes, badPosition}
-use Rattle.security.specs.Statements.{Stands, Good, Placed, Keeps, Breaks, AllKeep, FirstBreaks}
+use Rattle.security.specs.Statements.{Good, Placed, Keeps, Breaks, AllKeep, FirstBreaks}
+use Rattle.security.proofs.Standing.{may-stand}
 use Rattle.sequences.specs.Lists.{first}
-use Rattle.sequences.proofs.Tests.{cond-ind, both-pass, not-passed, not-failed}
+use Rattle.sequences.proofs.Tests.{both-pass, not-passed, not-failed}
 use Rattle.sequences.proofs.Counting.{getD-below}
 use Rattle.sequences.proofs.First.{first-some, first-none}
 
@@ -29,38 +27,10 @@ use Rattle.sequences.proofs.First.{first-some, first-none}
 pub position-at : (i : ℕ) → i < 16 → getD positions i 0 ≡ i
 position-at i h = getD-below 16 i 0 h
 
-pin-kept : (pin : Pin) (k : ℕ) → (pinAllows pin k ≡ true) ↔ ((c : ℕ) → pin ≡ To c → c ≡ k)
-pin-kept Free k = (λ _ c e. absurd (false≢true (ap isPinned e)), λ _. refl)
-pin-kept (To c) k = (λ t b e. let same : c ≡ b = cc in sym same ∙ eqb-true c k t, λ h. eq-eqb c k (h c refl))
-
 module _ (d : Description) where
-  stands-test : (b k : ℕ) → ((namesCloud d k && covers (cloudLevel d k) (blockLevel d b) && pinAllows (block d b .pin) k) ≡ true) ↔ Stands d b k
-  unfolding covers
-  stands-test b k = (
-    λ t.
-        let (u, pin) = both-pass _ _ .0 t in
-        let (named, level) = both-pass _ _ .0 u in
-        record { declared = ltb-true k (length (d .clouds)) named; rule7 = leb-true _ _ level; pin = pin-kept (block d b .pin) k .0 pin },
-    λ s. both-pass _ _ .1 (both-pass _ _ .1 (lt-ltb _ _ (s .declared), le-leb _ _ (s .rule7)), pin-kept (block d b .pin) k .1 (s .pin)),
-  )
-
-  -- where a position may have its cloud, it is good
-  pub may-stand : (p : List ℕ) (b : ℕ) → (mayStand d b (getD p b 0) ≡ true) ↔ Good d p b
-  unfolding mayStand
-  may-stand p b =
-      let k = getD p b 0 in
-      cond-ind (λ (t : Bool). (t ≡ true) ↔ Good d p b) (namesBlock d b)
-      (namesCloud d k && covers (cloudLevel d k) (blockLevel d b) && pinAllows (block d b .pin) k) (eqb k 0)
-      (λ t.
-      let declared = ltb-true b (length (d .blocks)) t in
-      (λ u. record { stands = λ _. stands-test b k .0 u; beyond = λ h. absurd (omega arith) }, λ g. stands-test b k .1 (g .stands declared)))
-      (λ f.
-      let past = ltb-false b (length (d .blocks)) f in
-      (λ u. record { stands = λ h. absurd (omega arith); beyond = λ _. eqb-true k 0 u }, λ g. eq-eqb k 0 (g .beyond past)))
-
   good : (p : List ℕ) (b : ℕ) → (badPosition d p b ≡ false) ↔ Good d p b
   unfolding badPosition
-  good p b = (λ f. may-stand p b .0 (not-false _ f), λ g. ap not (may-stand p b .1 g))
+  good p b = (λ f. may-stand d p b .0 (not-false _ f), λ g. ap not (may-stand d p b .1 g))
 
   bad : (p : List ℕ) (b : ℕ) → (badPosition d p b ≡ true) ↔ (Good d p b → ⊥)
   bad p b = (λ t g. true≢false (sym t ∙ good p b .1 g), λ n. not-failed _ (λ f. n (good p b .0 f)))

@@ -1,6 +1,11 @@
 pub mod Accepted
 pub mod Candidates
+pub mod Choices
 pub mod Deciding
 pub mod Judging
+pub mod Moves
 pub mod Refusals
+pub mod SecureEdges
+pub mod Sound
+pub mod Standing
 pub mod Undeclared

@@ -42,7 +42,8 @@ module _ (d : Description) (few : Limits d) where
   judge-within p =
       within-unless 15 decidingBytes (first (badPosition d p) positions) 13 _ (omega arith) (omega arith) (of-few (badPosition d p) positions (omega arith))
       (within-unless 15 decidingBytes (first (breaks16 d p) (d .edges)) 14 _ (omega arith) (omega arith) (of-few (breaks16 d p) (d .edges) (few .edges))
-      (within-unless 15 decidingBytes (first (breaks17 d p) (d .edges)) 15 (ok tt) (omega arith) (omega arith) (of-few (breaks17 d p) (d .edges) (few .edges)) tt))
+      (within-unless 15 decidingBytes (first (breaks17 d p) (d .edges)) 15 (ok tt) (omega arith) (omega arith)
+      (of-few (breaks17 d p) (d .edges) (few .edges)) tt))
 
 pub read-within : (s : List ℕ) → RefusalWithin 12 decidingBytes (read s)
 unfolding read

@@ -1,7 +1,7 @@
 // Judging one placement.
 ghost use mathlib.Core.Path.{_≡_};
-ghost use Prim.Native.Nat.{_≤_, _<_};
-ghost use lib.ListN.{length, getD};
+ghost use Prim.Native.Nat.{_<_};
+ghost use lib.ListN.{getD};
 ghost use Rattle.sequences.specs.Lists.{first};
 ghost use Rattle.description.specs.Meaning.{describes};
 ghost use Rattle.security.specs.Answers.{foundIn, breaksRule, judgeAnswer};
@@ -15,7 +15,6 @@ use crate::soundness::breaks_rule4;
 use crate::soundness::covers;
 use crate::soundness::may_stand;
 use description::decode::is_write;
-use description::decode::wide;
 use description::words::Words;
 use description::workflow::Edge;
 use description::workflow::Refusal;
@@ -23,6 +22,14 @@ use description::workflow::block_at;
 use description::workflow::cloud_at;
 use description::workflow::edge_at;
 use description::workflow::edge_count;
+use sequences::wide;
+
+// The numbers that a placement is refused with.
+const BAD_POSITION: u8 = 13;
+
+const RULE_16: u8 = 14;
+
+const RULE_17: u8 = 15;
 
 // The cloud of block b; past the sixteenth position it is 0.
 pub fn cloud_of(placement: [u8; 16], b: usize) -> u8
@@ -130,15 +137,15 @@ pub fn verdict(w: &Words, placement: [u8; 16]) -> Verdict
 {
     let position = first_bad_position(w, placement);
     if let Found::At(b) = position {
-        return unfit(13, b);
+        return unfit(BAD_POSITION, b);
     }
     let read = first_breaking(w, placement, Rule::Rule16);
     if let Found::At(n) = read {
-        return unfit(14, n);
+        return unfit(RULE_16, n);
     }
     let write = first_breaking(w, placement, Rule::Rule17);
     if let Found::At(n) = write {
-        return unfit(15, n);
+        return unfit(RULE_17, n);
     }
     Verdict::Secure
 }

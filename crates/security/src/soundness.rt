@@ -8,7 +8,6 @@ ghost use Rattle.security.specs.Answers.{foundIn};
 ghost use Rattle.security.specs.Soundness.{covers, clearanceOf, breaks2, breaks3, breaks4, pinAllows, mayStand, choicesOf, count};
 use crate::answers::Found;
 use description::decode::is_write;
-use description::decode::wide;
 use description::words::Words;
 use description::workflow::Block;
 use description::workflow::Edge;
@@ -18,6 +17,7 @@ use description::workflow::block_at;
 use description::workflow::block_count;
 use description::workflow::cloud_at;
 use description::workflow::cloud_count;
+use sequences::wide;
 
 // One level is at least as high as another.
 pub fn covers(high: u8, low: u8) -> bool

@@ -5,11 +5,11 @@ use native.Mathlib.Nat.{zero-lt-suc, suc-inj, le-refl}
 use native.Mathlib.Omega.{arith}
 use mathlib.Core.Path.{_≡_, refl, sym, ap, ap₂}
 use mathlib.Core.Logic.{_↔_, inl, inr}
-use mathlib.Core.Bool.{Bool, true, false, cond, false≢true}
+use mathlib.Core.Bool.{Bool, true, false, _||_, cond, false≢true}
 use mathlib.Core.List.{List, [], _∷_, map, head-eq-of-cons-eq, tail-eq-of-cons-eq}
 use mathlib.Core.List.{List·Memᴰ, List·Memᴰ·head, List·Memᴰ·tail, List·Memᴰ·not-nil, List·Memᴰ·cases-cons}
 use lib.ListN.{length, getD}
-use Rattle.sequences.specs.Lists.{keep}
+use Rattle.sequences.specs.Lists.{any, keep}
 use Rattle.sequences.proofs.Tests.{cond-ind, not-passed}
 
 -- two tests that pass together agree
@@ -34,6 +34,11 @@ module _ {A B : Type 0} (f g : A → B) where
     | inl same ↦ rw same (head-eq-of-cons-eq e)
     | inr k ↦ agree-map xs (tail-eq-of-cons-eq e) x k
   ]
+
+-- tests that agree on the elements find the same
+pub any-agree : {A : Type 0} (t u : A → Bool) (xs : List A) → ((x : A) → List·Memᴰ x xs → t x ≡ u x) → any t xs ≡ any u xs
+any-agree t u [] h = refl
+any-agree t u (x ∷ xs) h = ap₂ _||_ (h x (List·Memᴰ·head refl)) (any-agree t u xs (λ y m. h y (List·Memᴰ·tail m)))
 
 -- tests that agree on the elements keep the same
 pub keep-agree : {A : Type 0} (t u : A → Bool) (xs : List A) → ((x : A) → List·Memᴰ x xs → t x ≡ u x) → keep t xs ≡ keep u xs

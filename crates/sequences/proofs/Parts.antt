@@ -1,13 +1,23 @@
--- A test parts a list in two, and two tests in three: how many each part has.
+-- A test parts a list in two, and two tests in three: how many each part has. Of two lists it keeps what it keeps of each.
 use Prim.Native.Nat.{suc, _+_}
 use native.Mathlib.Omega.{arith}
 use mathlib.Core.Path.{_≡_, refl, ap}
 use mathlib.Core.Bool.{Bool, true, false, not, _&&_, cond}
-use mathlib.Core.List.{List, [], _∷_}
+use mathlib.Core.List.{List, [], _∷_, _++_}
 use lib.ListN.{length}
 use Rattle.sequences.specs.Lists.{keep}
 
 module _ {A : Type 0} where
+  -- what a test keeps of two lists, one behind the other
+  pub keep-append : (t : A → Bool) (xs ys : List A) → keep t (xs ++ ys) ≡ keep t xs ++ keep t ys
+  keep-append t [] ys = refl
+  keep-append t (x ∷ xs) ys = step (t x) (keep-append t xs ys)
+    where
+      step : (b : Bool) → keep t (xs ++ ys) ≡ keep t xs ++ keep t ys
+          → cond b (x ∷ keep t (xs ++ ys)) (keep t (xs ++ ys)) ≡ cond b (x ∷ keep t xs) (keep t xs) ++ keep t ys
+      step true e = ap (λ l. x ∷ l) e
+      step false e = e
+
   -- what a second test keeps of what the first kept is what passes both
   pub keep-both : (t u : A → Bool) (xs : List A) → keep u (keep t xs) ≡ keep (λ x. t x && u x) xs
   keep-both t u [] = refl

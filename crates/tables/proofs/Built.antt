@@ -1,82 +1,84 @@
 -- The tables of a well-formed description: they are what the walk asks for, a placement weighs by them what it weighs by the
 -- description, and the placements by them are the candidates.
-use Prim.Native.Nat.{ℕ, _+_, _-_, _*_, _/_, _%_, _^_, _≤_, _<_}
-use native.Mathlib.Nat.{zero-add}
+use Prim.Native.Nat.{ℕ, _+_, _-_, _*_, _/_, _%_, _≤_, _<_}
 use native.Mathlib.Omega.{arith}
 use mathlib.Core.Path.{_≡_, refl, sym, ap, ap₂, _∙_}
-use mathlib.Core.Bool.{Bool, true, false, not, _&&_, cond}
+use mathlib.Core.Bool.{Bool, true, false, _&&_, cond}
 use mathlib.Core.List.{List, [], _∷_, _++_, map, List·Memᴰ}
 use lib.Dec.{ltb, lit<}
 use lib.ListN.{length, getD, length-map}
-use borrow.Author.Tests.{lt-ltb, le-ltb, ltb-true, ltb-false}
+use borrow.Author.Tests.{lt-ltb, ltb-true, ltb-false}
 use Rattle.description.specs.declared.workflow.Edge.{Edge}
-use Rattle.description.specs.Format.{Description, noEdge, edge, block}
+use Rattle.description.specs.Format.{Description, noEdge, edge}
 use Rattle.description.specs.Invariants.{Limits, WellFormed, InRange}
 use Rattle.security.specs.Soundness.{mayStand, candidates}
 use Rattle.security.specs.Placements.{serviceCloud, datumCloud}
 use Rattle.costs.specs.Terms.{blockTerm, edgeTerm, weightOf}
+use Rattle.costs.proofs.Charges.{weight-terms, block-small}
 use Rattle.security.proofs.Candidates.{candidates-choices}
+use Rattle.security.proofs.Choices.{stands-declared, last-choice}
 use Rattle.sequences.specs.Lists.{from, below, keep, sum, sequences}
 use Rattle.sequences.proofs.Choices.{sequences-members}
-use Rattle.sequences.proofs.Counting.{length-below}
+use Rattle.sequences.proofs.Counting.{length-below, getD-below}
 use Rattle.sequences.proofs.Members.{keep-members, below-members, getD-map}
 use Rattle.sequences.proofs.Numbers.{kept-most}
 use Rattle.sequences.proofs.Positions.{everywhere}
 use Rattle.sequences.proofs.Tests.{cond-ind}
-use Rattle.visiting.specs.Tables.{tables, allowed, bit, placements, ownTerm, edgeTerm as termIn, start, weight, Ready}
-use Rattle.tables.specs.Building.{maskOf, masksOf, ownOf, later, other, lateIn, edgesBefore, startsOf, orderOf, edgeIn, endOf, endsOf}
-use Rattle.tables.specs.Building.{termOf, hasClouds, termAt, termsOf, pairsOf, tablesOf, padded, joined, group}
-use Rattle.tables.proofs.Bits.{bit-bits}
+use Rattle.visit.specs.Tables.{mask, term, end, start, allowed, placements, ownTerm, edgeTerm as termIn, weight, Ready}
+use Rattle.visit.proofs.Defined.{placements-of, weight-of}
+use Rattle.weights.specs.Weights.{termLimit}
+use Rattle.tables.specs.Building.{ownOf, later, other, lateIn, edgesBefore, startsOf, orderOf, edgeIn, endOf, endsOf}
+use Rattle.tables.specs.Building.{termOf, hasClouds, termAt, termsOf, exchangesOf, tablesOf, padded, joined, group}
+use Rattle.tables.proofs.EdgeSides.{term-small}
+use Rattle.tables.proofs.Exchanging.{own-at, mask-at, mask-low}
 use Rattle.tables.proofs.Filling.{getD-table, getD-tableTo, table-all}
-use Rattle.tables.proofs.Groups.{keep-all, keep-cut, from-split, map-append, joined-grows, joined-count, regroup}
+use Rattle.tables.proofs.Groups.{keep-all, same-on, from-split, map-append, joined-grows, joined-count, regroup}
 use Rattle.tables.proofs.Indexing.{map-below, map-constant, index-map, getD-padded, sequences-padded}
+use Rattle.tables.proofs.Places.{term-in, end-in, start-in, on-both}
 use Rattle.tables.proofs.Named.{service-block, datum-block}
 use Rattle.tables.proofs.Ordering.{order-before, order-at}
 use Rattle.tables.proofs.Paired.{paired}
-use Rattle.tables.proofs.Small.{block-small, term-small}
 
 -- ---- entries
 
 module _ (d : Description) where
   -- where the edges of a later end begin
   start-is : (k : ℕ) → k ≤ length (d .blocks) → k < 17 → start (tablesOf d) k ≡ edgesBefore d k
-  unfolding start tablesOf startsOf
-  start-is k h l = getD-tableTo 17 (length (d .blocks) + 1) (edgesBefore d) k l (omega arith)
+  unfolding tablesOf startsOf
+  start-is k h l = start-in d (exchangesOf d) k l ∙ getD-tableTo 17 (length (d .blocks) + 1) (edgesBefore d) k l (omega arith)
 
   -- the two ends of the edge at a place
-  first-end : (i : ℕ) → i < length (d .edges) → i < 32 → getD (tablesOf d .ends) (2 * i) 0 ≡ later (edgeIn d i)
+  first-end : (i : ℕ) → i < length (d .edges) → i < 32 → end (tablesOf d) (2 * i) ≡ later (edgeIn d i)
   unfolding tablesOf endsOf
   first-end i l h =
       let q : 2 * i / 2 ≡ i = omega arith in
       let r : 2 * i % 2 ≡ 0 = omega arith in
+      end-in d (exchangesOf d) (2 * i) (omega arith) ∙
       getD-tableTo 64 (length (d .edges) * 2) (λ j. endOf (edgeIn d (j / 2)) (j % 2)) (2 * i) (omega arith) (omega arith) ∙
       ap₂ (λ (a b : ℕ). endOf (edgeIn d a) b) q r
 
-  second-end : (i : ℕ) → i < length (d .edges) → i < 32 → getD (tablesOf d .ends) (2 * i + 1) 0 ≡ other (edgeIn d i)
+  second-end : (i : ℕ) → i < length (d .edges) → i < 32 → end (tablesOf d) (2 * i + 1) ≡ other (edgeIn d i)
   unfolding tablesOf endsOf
   second-end i l h =
       let q : (2 * i + 1) / 2 ≡ i = omega arith in
       let r : (2 * i + 1) % 2 ≡ 1 = omega arith in
+      end-in d (exchangesOf d) (2 * i + 1) (omega arith) ∙
       getD-tableTo 64 (length (d .edges) * 2) (λ j. endOf (edgeIn d (j / 2)) (j % 2)) (2 * i + 1) (omega arith) (omega arith) ∙
       ap₂ (λ (a b : ℕ). endOf (edgeIn d a) b) q r
 
   -- what a block adds, and what the edge at a place adds
   own-is : (q : List ℕ) (b : ℕ) → b < 16 → getD q b 0 < 8 → ownTerm (tablesOf d) q b ≡ blockTerm d b (getD q b 0)
-  unfolding ownTerm tablesOf ownOf
-  own-is q b h l =
-      let x = getD q b 0 in
-      let quo : (b * 8 + x) / 8 ≡ b = omega arith in
-      let rem : (b * 8 + x) % 8 ≡ x = omega arith in
-      getD-table 128 (λ i. blockTerm d (i / 8) (i % 8)) (b * 8 + x) (omega arith) ∙ ap₂ (blockTerm d) quo rem
+  unfolding tablesOf
+  own-is q b h l = own-at d b (getD q b 0) h l
 
   entry-is : Limits d → (i x y : ℕ) → i < length (d .edges) → x < length (d .clouds) → y < length (d .clouds)
-      → getD (tablesOf d .terms) (i * 64 + x * 8 + y) 0 ≡ termOf d (edgeIn d i) x y
+      → term (tablesOf d) (i * 64 + x * 8 + y) ≡ termOf d (edgeIn d i) x y
   unfolding tablesOf termsOf
   entry-is few i x y h l k =
       let a : (i * 64 + x * 8 + y) / 64 ≡ i = omega (arith, few .clouds) in
       let b : (i * 64 + x * 8 + y) / 8 % 8 ≡ x = omega (arith, few .clouds) in
       let c : (i * 64 + x * 8 + y) % 8 ≡ y = omega (arith, few .clouds) in
-      getD-table 2048 (termAt d) (i * 64 + x * 8 + y) (omega (arith, few .edges, few .clouds)) ∙
+      term-in d (i * 64 + x * 8 + y) ∙ getD-table 2048 (termAt d) (i * 64 + x * 8 + y) (omega (arith, few .edges, few .clouds)) ∙
       rw (a, b, c) (simp (lt-ltb i (length (d .edges)) h, lt-ltb x (length (d .clouds)) l, lt-ltb y (length (d .clouds)) k))
 
   -- by its own ends, the later one first or not
@@ -92,17 +94,10 @@ module _ (d : Description) where
 
   term-is : Limits d → (q : List ℕ) → ((b : ℕ) → getD q b 0 < length (d .clouds)) → (i : ℕ) → i < length (d .edges)
       → termIn (tablesOf d) q i ≡ edgeTerm d (edgeIn d i) (getD q (edgeIn d i .service) 0) (getD q (edgeIn d i .datum) 0)
-  unfolding termIn
   term-is few q there i h =
       let i32 : i < 32 = omega (arith, few .edges) in
       rw (first-end i h i32, second-end i h i32)
       (entry-is few i (getD q (later (edgeIn d i)) 0) (getD q (other (edgeIn d i)) 0) h (there _) (there _) ∙ turned (edgeIn d i) q)
-
--- tables that are each those of the description
-pub tables-are : (d : Description) {own terms ends starts masks pairs : List ℕ} → own ≡ ownOf d → terms ≡ termsOf d → ends ≡ endsOf d → starts ≡ startsOf d
-    → masks ≡ masksOf d → pairs ≡ pairsOf d → tables own terms ends starts masks pairs ≡ tablesOf d
-unfolding tablesOf
-tables-are d a b c e f g = cc
 
 -- the other end is not behind the later one
 other-least : (e : Edge) → other e ≤ later e
@@ -129,14 +124,14 @@ module _ (d : Description) (wf : WellFormed d) where
   few-before k = omega (arith, kept-most (λ n. ltb (lateIn d n) k) (below (length (d .edges))), length-below (length (d .edges)))
 
   earlier-ends : (k i : ℕ) → k ≤ length (d .blocks) → i < start (tablesOf d) k
-      → (getD (tablesOf d .ends) (2 * i) 0 < k) × (getD (tablesOf d .ends) (2 * i + 1) 0 ≤ getD (tablesOf d .ends) (2 * i) 0)
+      → (end (tablesOf d) (2 * i) < k) × (end (tablesOf d) (2 * i + 1) ≤ end (tablesOf d) (2 * i))
   earlier-ends k i l h =
       let j : i < edgesBefore d k = omega (arith, start-is d k l (omega (arith, wf .limits .blocks))) in
       let there : i < length (d .edges) = omega (arith, few-before k) in
       let i32 : i < 32 = omega (arith, wf .limits .edges) in
       (rw (first-end d i there i32) (order-before d k i l j), rw (first-end d i there i32, second-end d i there i32) (other-least (edgeIn d i)))
 
-  later-ends : (k i : ℕ) → k < length (d .blocks) → start (tablesOf d) k ≤ i → i < start (tablesOf d) (k + 1) → getD (tablesOf d .ends) (2 * i) 0 ≡ k
+  later-ends : (k i : ℕ) → k < length (d .blocks) → start (tablesOf d) k ≤ i → i < start (tablesOf d) (k + 1) → end (tablesOf d) (2 * i) ≡ k
   later-ends k i l g h =
       let k16 : k < 16 = omega (arith, wf .limits .blocks) in
       let a : edgesBefore d k ≤ i = omega (arith, start-is d k (omega arith) (omega arith)) in
@@ -176,9 +171,11 @@ module _ (d : Description) (wf : WellFormed d) where
       ap sum (index-map f (d .edges) noEdge)
 
   module _ (q : List ℕ) (there : (b : ℕ) → getD q b 0 < length (d .clouds)) where
-    own-sum : sum (map (ownTerm (tablesOf d) q) (below (length (d .blocks)))) ≡ sum (map (λ b. blockTerm d b (getD (padded d q) b 0)) (below (length (d .blocks))))
+    own-sum : sum (map (ownTerm (tablesOf d) q) (below (length (d .blocks)))) ≡
+        sum (map (λ b. blockTerm d b (getD (padded d q) b 0)) (below (length (d .blocks))))
     own-sum = ap sum (map-below (ownTerm (tablesOf d) q) (λ b. blockTerm d b (getD (padded d q) b 0)) (length (d .blocks)) (λ b h.
-        own-is d q b (omega (arith, wf .limits .blocks)) (omega (arith, there b, wf .limits .clouds)) ∙ ap (blockTerm d b) (sym (getD-padded q (16 - length (d .blocks)) b))))
+        own-is d q b (omega (arith, wf .limits .blocks)) (omega (arith, there b, wf .limits .clouds)) ∙
+        ap (blockTerm d b) (sym (getD-padded q (16 - length (d .blocks)) b))))
 
     -- what an edge adds at the placement
     added : Edge → ℕ
@@ -200,85 +197,86 @@ module _ (d : Description) (wf : WellFormed d) where
 
     -- a placement of the blocks weighs by the tables what it weighs, as sixteen clouds, by the description
     pub weights : weight (tablesOf d) (length (d .blocks)) q ≡ weightOf d (padded d q)
-    unfolding weight weightOf added
-    weights = ap₂ _+_ own-sum edge-sum
+    unfolding added
+    weights = weight-of (tablesOf d) (length (d .blocks)) q ∙ ap₂ _+_ own-sum edge-sum ∙ sym (weight-terms d (padded d q))
 
   -- ---- where blocks stand
 
   -- a block may stand by the tables where it may by the description
-  pub allowed-is : (b k : ℕ) → b < length (d .blocks) → k < 8 → allowed (tablesOf d) b k ≡ mayStand d b k
-  unfolding tablesOf masksOf maskOf
-  allowed-is b k h l =
-      ap (λ (m : ℕ). bit m k) (getD-table 16 (maskOf d) b (omega (arith, wf .limits .blocks)) ∙ simp (lt-ltb b (length (d .blocks)) h)) ∙
-      bit-bits (mayStand d b) 0 8 k l ∙ ap (mayStand d b) (zero-add k)
+  allowed-is : (b k : ℕ) → b < length (d .blocks) → k < 8 → allowed (tablesOf d) b k ≡ mayStand d b k
+  unfolding tablesOf
+  allowed-is b k h l = mask-at d (exchangesOf d) b k (omega (arith, wf .limits .blocks)) h l
 
-  choices-are : (b : ℕ) → b < length (d .blocks) → keep (mayStand d b) (below 8) ≡ keep (allowed (tablesOf d) b) (below (length (d .clouds)))
-  unfolding mayStand
-  choices-are b h =
-      keep-cut (mayStand d b) (allowed (tablesOf d) b) (length (d .clouds)) 8 (wf .limits .clouds)
-      (λ k l. sym (allowed-is b k h (omega (arith, wf .limits .clouds))))
-      (λ k l m. simp (lt-ltb b (length (d .blocks)) h, le-ltb k (length (d .clouds)) l))
+  masks-low : (b : ℕ) → b < length (d .blocks) → mask (tablesOf d) b < 256
+  unfolding tablesOf
+  masks-low b h = mask-low d (exchangesOf d) b (omega (arith, wf .limits .blocks))
 
-  -- past the last block there is one choice
-  no-choice : (b : ℕ) → length (d .blocks) ≤ b → keep (mayStand d b) (below 8) ≡ 0 ∷ []
-  unfolding mayStand
-  no-choice b h = simp (le-ltb b (length (d .blocks)) h)
+  -- the clouds on which it may
+  abbrev choices : ℕ → List ℕ
+  choices b = keep (allowed (tablesOf d) b) (below 8)
+
+  choices-are : (b : ℕ) → b < length (d .blocks) → keep (mayStand d b) (below 8) ≡ choices b
+  choices-are b h = same-on (mayStand d b) (allowed (tablesOf d) b) 0 8 (λ k l m. sym (allowed-is b k h (omega arith)))
 
   -- the placements by the tables, as sixteen clouds, are the candidates, in the same order
-  pub placements-are : map (padded d) (placements (tablesOf d) (length (d .clouds)) (length (d .blocks))) ≡ candidates d
-  unfolding placements
+  pub placements-are : map (padded d) (placements (tablesOf d) (length (d .blocks))) ≡ candidates d
   placements-are =
       let n = length (d .blocks) in
       let z = 16 - n in
       let split : 16 ≡ n + z = omega (arith, wf .limits .blocks) in
-      let choices : ℕ → List ℕ = λ b. keep (mayStand d b) (below 8) in
+      let standing : ℕ → List ℕ = λ b. keep (mayStand d b) (below 8) in
+      ap (map (padded d)) (placements-of (tablesOf d) n) ∙
       sym (candidates-choices d ∙
-      ap (λ (k : ℕ). sequences (map choices (below k))) split ∙
-      ap (λ (l : List ℕ). sequences (map choices l)) (from-split 0 n z) ∙
-      ap sequences (map-append choices (below n) (from (0 + n) z) ∙
-      ap₂ _++_ (map-below choices (λ b. keep (allowed (tablesOf d) b) (below (length (d .clouds)))) n choices-are)
-      (map-constant choices (0 ∷ []) (0 + n) z (λ b l. no-choice b (omega arith)))) ∙
-      sequences-padded z (map (λ b. keep (allowed (tablesOf d) b) (below (length (d .clouds)))) (below n)))
+      ap (λ (k : ℕ). sequences (map standing (below k))) split ∙
+      ap (λ (l : List ℕ). sequences (map standing l)) (from-split 0 n z) ∙
+      ap sequences (map-append standing (below n) (from (0 + n) z) ∙
+      ap₂ _++_ (map-below standing choices n choices-are) (map-constant standing (0 ∷ []) (0 + n) z (λ b l. last-choice d b (omega arith)))) ∙
+      sequences-padded z (map choices (below n)))
 
   -- a placement by the tables has a declared cloud for each block
-  pub placement-there : (q : List ℕ) → List·Memᴰ q (placements (tablesOf d) (length (d .clouds)) (length (d .blocks)))
+  pub placement-there : (q : List ℕ) → List·Memᴰ q (placements (tablesOf d) (length (d .blocks)))
       → (length q ≡ length (d .blocks)) × ((b : ℕ) → getD q b 0 < length (d .clouds))
-  unfolding placements
   placement-there q m =
       let n = length (d .blocks) in
-      let choices : ℕ → List ℕ = λ b. keep (allowed (tablesOf d) b) (below (length (d .clouds))) in
-      let (size, at) = sequences-members 0 (map choices (below n)) q .0 m in
+      let (size, at) = sequences-members 0 (map choices (below n)) q .0 (rw (placements-of (tablesOf d) n) at m) in
       let count : length (map choices (below n)) ≡ n = length-map (below n) choices ∙ length-below n in (
         size ∙ count,
         everywhere (λ (x : ℕ). x < length (d .clouds)) 0 q (wf .someCloud) (λ b h.
-            let inside : b < length (below n) = omega (arith, size, count, length-below n) in
-            let chosen = rw (getD-map choices (below n) b 0 [] inside) at (at b (omega (arith, size))) in
-            below-members (length (d .clouds)) (getD q b 0) .0 (keep-members (allowed (tablesOf d) (getD (below n) b 0)) (below (length (d .clouds))) (getD q b 0) .0 chosen .0)),
+            let there : b < n = omega (arith, size, count) in
+            let inside : b < length (below n) = omega (arith, length-below n) in
+            let chosen = rw (getD-map choices (below n) b 0 [] inside, getD-below n b 0 there) at (at b (omega (arith, size))) in
+            let (low, may) = keep-members (allowed (tablesOf d) b) (below 8) (getD q b 0) .0 chosen in
+            stands-declared d b (getD q b 0) there (sym (allowed-is b (getD q b 0) there (below-members 8 (getD q b 0) .0 low)) ∙ may)),
       )
 
   -- ---- what the walk asks
 
   module _ (r : InRange d) where
-    own-low : (i : ℕ) → getD (tablesOf d .own) i 0 < 2 ^ 49
-    unfolding tablesOf ownOf
-    own-low = table-all (λ (x : ℕ). x < 2 ^ 49) 128 (λ i. blockTerm d (i / 8) (i % 8)) (lit< tt) (λ i. block-small d r (i / 8) (i % 8))
+    own-low : (i : ℕ) → getD (ownOf d) i 0 < termLimit
+    unfolding ownOf
+    own-low = table-all (λ (x : ℕ). x < termLimit) 128 (λ i. blockTerm d (i / 8) (i % 8)) (lit< tt) (λ i. block-small d r (i / 8) (i % 8))
 
-    terms-low : (i : ℕ) → getD (tablesOf d .terms) i 0 < 34 * 2 ^ 53
-    unfolding tablesOf termsOf
-    terms-low = table-all (λ (x : ℕ). x < 34 * 2 ^ 53) 2048 (termAt d) (lit< tt)
-        (λ i. cond-ind (λ (x : ℕ). x < 34 * 2 ^ 53) (ltb (i / 64) (length (d .edges)) && hasClouds (length (d .clouds)) i) (termOf d (edgeIn d (i / 64)) (i / 8 % 8) (i % 8)) 0
-        (λ _. term-small d r (edgeIn d (i / 64)) (i / 8 % 8) (i % 8)) (λ _. lit< tt))
+    terms-low : (i : ℕ) → getD (termsOf d) i 0 < termLimit
+    unfolding termsOf
+    terms-low = table-all (λ (x : ℕ). x < termLimit) 2048 (termAt d) (lit< tt) (λ i.
+        cond-ind (λ (x : ℕ). x < termLimit) (ltb (i / 64) (length (d .edges)) && hasClouds (length (d .clouds)) i)
+        (termOf d (edgeIn d (i / 64)) (i / 8 % 8) (i % 8)) 0 (λ _. term-small d r (edgeIn d (i / 64)) (i / 8 % 8) (i % 8)) (λ _. lit< tt))
+
+    words-low : (i : ℕ) → getD (tablesOf d .words) i 0 < termLimit
+    unfolding tablesOf
+    words-low = on-both (λ (x : ℕ). x < termLimit) (ownOf d) (termsOf d) own-low terms-low
 
     -- the tables of a well-formed description whose numbers are in their ranges are as the walk asks
     pub ready : Ready (tablesOf d) (length (d .blocks))
     ready = record {
+      inhabited = wf .someBlock;
       few = wf .limits .blocks;
       earlier = earlier-ends;
       later = later-ends;
       rising = rising-starts;
       none = no-start;
       all = λ k l. omega (arith, start-is d k l (omega (arith, wf .limits .blocks)), few-before k, wf .limits .edges);
-      ownSmall = own-low;
-      termsSmall = terms-low;
+      small = words-low;
+      masked = masks-low;
       paired = paired d wf;
     }

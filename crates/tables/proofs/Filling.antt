@@ -126,6 +126,10 @@ tableTo-same n m k f g e h =
 pub fill-lent : {n : ℕ} {f : ℕ → ℕ} {a : List ℕ} → a ≡ replicate n 0 → Filled n f a 0
 fill-lent e = rw e fill-begins
 
+-- it keeps its length
+pub fill-kept : {n : ℕ} {f : ℕ → ℕ} {a lent : List ℕ} {i : ℕ} → Filled n f a i → lent ≡ replicate n 0 → length a ≡ length lent
+fill-kept {n} k e = k .size ∙ sym (ap length e ∙ length-replicate {A = ℕ} n 0)
+
 -- an array with a list in front
 
 module _ {n : ℕ} where

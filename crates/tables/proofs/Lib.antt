@@ -1,12 +1,14 @@
 pub mod Bits
 pub mod Built
 pub mod EdgeSides
+pub mod Exchanging
 pub mod Filling
 pub mod Groups
 pub mod Indexing
+pub mod Laying
 pub mod Named
 pub mod Noting
 pub mod Ordering
 pub mod Paired
+pub mod Places
 pub mod RowTest
-pub mod Small

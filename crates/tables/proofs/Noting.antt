@@ -14,9 +14,9 @@ use Rattle.description.specs.declared.workflow.Edge.{Edge}
 use Rattle.description.specs.declared.workflow.Way.{Way}
 use Rattle.description.specs.Format.{Description, noEdge, edge, sameWay}
 use Rattle.sequences.specs.Lists.{keep}
+use Rattle.sequences.proofs.Parts.{keep-append}
 use Rattle.tables.specs.Building.{table, isOf, edgesOf, onlyOf, noted, onlyIn}
 use Rattle.tables.proofs.Filling.{length-table, getD-table}
-use Rattle.tables.proofs.Groups.{keep-append}
 use Rattle.tables.proofs.Indexing.{zeros-at}
 
 -- one more edge is noted by what was noted before

@@ -1,24 +1,26 @@
 -- The data between one writer and one reader: their two services are blocks.
 use Prim.Native.Nat.{ℕ, zero, suc, _+_, _*_, _/_, _%_, _<_}
 use native.Mathlib.Omega.{arith}
-use mathlib.Core.Path.{_≡_, refl, sym, ap, ap₂, _∙_}
+use mathlib.Core.Path.{_≡_, refl, ap, ap₂, _∙_}
 use mathlib.Core.Logic.{_⊎_, inl, inr, ⊎-elim}
-use mathlib.Core.Bool.{Bool, true, false, not, _||_, cond}
-use mathlib.Core.List.{List, [], _∷_}
+use mathlib.Core.Bool.{Bool, true, false, _||_, cond}
+use mathlib.Core.List.{List, [], _∷_, List·Memᴰ·head}
 use lib.Dec.{eqb}
 use lib.ListN.{length, getD}
 use borrow.Author.Tests.{eq-eqb, ne-eqb}
 use Rattle.description.specs.declared.workflow.Edge.{Edge}
 use Rattle.description.specs.declared.workflow.Way.{Way}
 use Rattle.description.specs.declared.workflow.Way.the-variants.{Reads, Writes}
-use Rattle.description.specs.Format.{Description, noEdge, edge}
+use Rattle.description.specs.Format.{Description, noEdge, block, isDatum}
 use Rattle.description.specs.Invariants.{WellFormed}
-use Rattle.rules.specs.Options.{writersOf, readersOf}
+use Rattle.options.specs.Options.{writersOf}
+use Rattle.options.proofs.Exchanges.{written-datum}
 use Rattle.sequences.specs.Lists.{keep}
 use Rattle.sequences.proofs.Tests.{cond-ind}
-use Rattle.visiting.specs.Tables.{Paired}
-use Rattle.tables.specs.Building.{isOf, onlyOf, only, ofPair, pairAt, pairsOf, tablesOf}
+use Rattle.visit.specs.Tables.{Paired}
+use Rattle.tables.specs.Building.{isOf, onlyOf, only, ofPair, pairAt, pairsOf, exchangesOf, bytesOf, tablesOf}
 use Rattle.tables.proofs.Filling.{getD-tableTo}
+use Rattle.tables.proofs.Places.{pair-in}
 use Rattle.tables.proofs.Named.{service-block}
 
 -- P holds of each element
@@ -62,6 +64,14 @@ module _ (a b : ℕ) (h : a ≡ 255 → ⊥) (k : b ≡ 255 → ⊥) where
   pub pair-second : ofPair a b 1 ≡ b
   pair-second = simp (ne-eqb a 255 h, ne-eqb b 255 k)
 
+-- the first of a pair that is low
+first-low : (a b : ℕ) → ofPair a b 0 < 16 → a < 16
+first-low a b = go (eqb a 255 || eqb b 255)
+  where
+    go : (t : Bool) → cond t 255 a < 16 → a < 16
+    go true h = absurd (omega arith)
+    go false h = h
+
 -- both of a pair are low where one of the two is
 both-low : (n a b : ℕ) → (a ≡ 255) ⊎ (a < n) → (b ≡ 255) ⊎ (b < n) → ofPair a b 0 < 16 → (ofPair a b 0 < n) × (ofPair a b 1 < n)
 both-low n a b (inl p) h l = absurd (let e = ap (λ (t : Bool). cond (t || eqb b 255) 255 a) (eq-eqb a 255 p) in omega arith)
@@ -77,14 +87,6 @@ both-low n a b (inr p) (inr h) l = go (eqb a 255 || eqb b 255) l
     go true k = absurd (omega arith)
     go false k = (p, h)
 
--- of two lists that are not one edge each, one has 255
-either : (es fs : List Edge) → ((e f : Edge) → es ≡ e ∷ [] → fs ≡ f ∷ [] → ⊥) → (onlyOf es ≡ 255) ⊎ (onlyOf fs ≡ 255)
-either [] fs h = inl refl
-either (e ∷ e' ∷ es) fs h = inl refl
-either (e ∷ []) [] h = inr refl
-either (e ∷ []) (f ∷ f' ∷ fs) h = inr refl
-either (e ∷ []) (f ∷ []) h = absurd (h e f refl refl)
-
 module _ (d : Description) (wf : WellFormed d) where
   services-low : Every (λ (e : Edge). e .service < length (d .blocks)) (d .edges)
   services-low = every-at (λ (e : Edge). e .service < length (d .blocks)) noEdge (d .edges) (service-block d wf)
@@ -94,21 +96,25 @@ module _ (d : Description) (wf : WellFormed d) where
       only-low (length (d .blocks)) (keep (isOf way m) (d .edges))
       (every-kept (λ (e : Edge). e .service < length (d .blocks)) (isOf way m) (d .edges) services-low)
 
-  -- the entries of datum m
-  pub first-of-pair : (m : ℕ) → m < length (d .blocks) → getD (tablesOf d .pairs) (2 * m) 0 ≡ ofPair (only d Writes m) (only d Reads m) 0
-  unfolding tablesOf pairsOf
-  first-of-pair m h =
+  -- the entries of datum m, whatever lies behind the pairs
+  pub first-of-pair : (last : List ℕ) (m : ℕ) → m < length (d .blocks)
+      → getD (bytesOf d last) (97 + 2 * m) 0 ≡ ofPair (only d Writes m) (only d Reads m) 0
+  unfolding pairsOf
+  first-of-pair last m h =
       let q : 2 * m / 2 ≡ m = omega arith in
       let r : 2 * m % 2 ≡ 0 = omega arith in
-      getD-tableTo 32 (2 * length (d .blocks)) (pairAt d) (2 * m) (omega (arith, wf .limits .blocks)) (omega arith) ∙
+      let low : 2 * m < 32 = omega (arith, wf .limits .blocks) in
+      pair-in d last (2 * m) low ∙ getD-tableTo 32 (2 * length (d .blocks)) (pairAt d) (2 * m) low (omega arith) ∙
       ap₂ (λ (a b : ℕ). ofPair (only d Writes a) (only d Reads a) b) q r
 
-  pub second-of-pair : (m : ℕ) → m < length (d .blocks) → getD (tablesOf d .pairs) (2 * m + 1) 0 ≡ ofPair (only d Writes m) (only d Reads m) 1
-  unfolding tablesOf pairsOf
-  second-of-pair m h =
+  pub second-of-pair : (last : List ℕ) (m : ℕ) → m < length (d .blocks)
+      → getD (bytesOf d last) (97 + (2 * m + 1)) 0 ≡ ofPair (only d Writes m) (only d Reads m) 1
+  unfolding pairsOf
+  second-of-pair last m h =
       let q : (2 * m + 1) / 2 ≡ m = omega arith in
       let r : (2 * m + 1) % 2 ≡ 1 = omega arith in
-      getD-tableTo 32 (2 * length (d .blocks)) (pairAt d) (2 * m + 1) (omega (arith, wf .limits .blocks)) (omega arith) ∙
+      let low : 2 * m + 1 < 32 = omega (arith, wf .limits .blocks) in
+      pair-in d last (2 * m + 1) low ∙ getD-tableTo 32 (2 * length (d .blocks)) (pairAt d) (2 * m + 1) low (omega arith) ∙
       ap₂ (λ (a b : ℕ). ofPair (only d Writes a) (only d Reads a) b) q r
 
   -- the service of an only edge is small
@@ -118,33 +124,20 @@ module _ (d : Description) (wf : WellFormed d) where
       let l : e .service < length (d .blocks) = (rw k at p) .0 in
       omega (arith, wf .limits .blocks)
 
-  service-low : (way : Way) (m : ℕ) (e : Edge) → keep (isOf way m) (d .edges) ≡ e ∷ [] → e .service ≡ 255 → ⊥
-  service-low way m e k h = let few = service-few way m e k in omega arith
-
-  -- The entries of datum m: the services of its writer and of its reader, where it has one of each; else 255.
-  pub pair-is : (m : ℕ) → m < length (d .blocks) → (e f : Edge) → writersOf d m ≡ e ∷ [] → readersOf d m ≡ f ∷ []
-      → (getD (tablesOf d .pairs) (2 * m) 0 ≡ e .service) × (getD (tablesOf d .pairs) (2 * m + 1) 0 ≡ f .service)
-  pair-is m l e f writer reader =
-      let a : only d Writes m ≡ e .service = ap onlyOf writer in
-      let b : only d Reads m ≡ f .service = ap onlyOf reader in
-      let low-a : only d Writes m ≡ 255 → ⊥ = λ p. service-low Writes m e writer (sym a ∙ p) in
-      let low-b : only d Reads m ≡ 255 → ⊥ = λ p. service-low Reads m f reader (sym b ∙ p) in (
-        first-of-pair m l ∙ pair-first (only d Writes m) (only d Reads m) low-a low-b ∙ a,
-        second-of-pair m l ∙ pair-second (only d Writes m) (only d Reads m) low-a low-b ∙ b,
-      )
-
-  pub no-pair : (m : ℕ) → m < length (d .blocks) → ((e f : Edge) → writersOf d m ≡ e ∷ [] → readersOf d m ≡ f ∷ [] → ⊥)
-      → (getD (tablesOf d .pairs) (2 * m) 0 ≡ 255) × (getD (tablesOf d .pairs) (2 * m + 1) 0 ≡ 255)
-  no-pair m l h =
-      let one = either (writersOf d m) (readersOf d m) h in (
-        first-of-pair m l ∙ pair-none (only d Writes m) (only d Reads m) 0 one,
-        second-of-pair m l ∙ pair-none (only d Writes m) (only d Reads m) 1 one,
-      )
-
   -- writers and readers are blocks
   pub paired : Paired (tablesOf d) (length (d .blocks))
+  unfolding tablesOf
   paired = record {
     pairsSmall = λ m l h.
-        rw (first-of-pair m l, second-of-pair m l)
-        (both-low (length (d .blocks)) (only d Writes m) (only d Reads m) (low Writes m) (low Reads m) (rw (first-of-pair m l) at h));
+        let first = first-of-pair (exchangesOf d) m l in
+        rw (first, second-of-pair (exchangesOf d) m l)
+        (both-low (length (d .blocks)) (only d Writes m) (only d Reads m) (low Writes m) (low Reads m) (rw first at h));
   }
+
+  -- what has a writer and a reader is a datum
+  pub paired-datum : (m : ℕ) → ofPair (only d Writes m) (only d Reads m) 0 < 16 → isDatum (block d m .kind) ≡ true
+  paired-datum m h = go (writersOf d m) refl (first-low (only d Writes m) (only d Reads m) h)
+    where
+      go : (ws : List Edge) → writersOf d m ≡ ws → onlyOf ws < 16 → isDatum (block d m .kind) ≡ true
+      go [] e l = absurd (omega arith)
+      go (w ∷ ws) e l = written-datum d wf m w (rw e (List·Memᴰ·head refl))

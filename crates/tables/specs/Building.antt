@@ -1,6 +1,6 @@
 -- The tables of a description that a walk over its placements takes: where blocks may stand and what they are charged there, the edges
 -- in the order of their later ends, and the data between one writer and one reader.
-use Prim.Native.Nat.{ℕ, zero, suc, _+_, _-_, _*_, _/_, _%_, _^_, _≤_, _<_}
+use Prim.Native.Nat.{ℕ, zero, suc, _+_, _-_, _*_, _/_, _%_, _≤_, _<_}
 use mathlib.Core.Path.{_≡_}
 use mathlib.Core.Bool.{Bool, not, _&&_, _||_, cond}
 use mathlib.Core.List.{List, [], _∷_, _++_, map}
@@ -14,8 +14,10 @@ use Rattle.description.specs.declared.workflow.Way.the-variants.{Reads, Writes}
 use Rattle.description.specs.Format.{Description, cloud, block, edge, namesBlock, sameWay}
 use Rattle.security.specs.Soundness.{mayStand}
 use Rattle.costs.specs.Terms.{blockTerm, edgeTerm, serviceSide, datumSide}
-use Rattle.sequences.specs.Lists.{keep, below}
-use Rattle.visiting.specs.Tables.{Tables, tables}
+use Rattle.options.specs.Representatives.{exchanges}
+use Rattle.sequences.specs.Lists.{keep, below, before}
+use Rattle.visit.specs.Tables.{Tables, tables, masksFrom, pairsFrom, bit}
+use Rattle.weights.specs.Weights.{termLimit}
 
 -- an array of n entries
 unfoldable pub table : (n : ℕ) → (ℕ → ℕ) → List ℕ
@@ -139,7 +141,7 @@ sideOf d e end k = sideOn e (block d (e .datum)) (cloud d k) end
 -- an array of the sides of an edge: of end i / 8 on cloud i % 8, where that is declared
 pub record Sides (d : Description) (e : Edge) (a : List ℕ) : Type 0 where
   pub size : length a ≡ 16
-  pub small : AllBelow (34 * 2 ^ 53) a
+  pub small : AllBelow (termLimit) a
   pub side : (i : ℕ) → i < 16 → i % 8 < length (d .clouds) → getD a i 0 ≡ sideOf d e (i / 8) (i % 8)
 
 -- what an edge adds with its ends on clouds x and y, by its sides: 0 where both stand together
@@ -165,11 +167,15 @@ termsOf d = table 2048 (termAt d)
 
 -- ---- data between one writer and one reader
 
--- the only edge's service; 255 where there is none or there are more
+-- no block has this number
+abbrev pub noService : ℕ
+noService = 255
+
+-- the only edge's service; no service where there is none or there are more
 abbrev pub onlyOf : List Edge → ℕ
-onlyOf [] = 255
+onlyOf [] = noService
 onlyOf (e ∷ []) = e .service
-onlyOf (e ∷ f ∷ es) = 255
+onlyOf (e ∷ f ∷ es) = noService
 
 -- an edge reads, or writes, datum m; those edges
 abbrev pub isOf : Way → ℕ → Edge → Bool
@@ -182,19 +188,23 @@ edgesOf d way m = keep (isOf way m) (d .edges)
 abbrev pub only : Description → Way → ℕ → ℕ
 only d way m = onlyOf (edgesOf d way m)
 
--- the same while edges are still to come: 0 where there was none, 255 where there were more, otherwise the service and 1
+-- the same while edges are still to come: 0 where there was none, no service where there were more, otherwise the service and 1
 abbrev pub noted : List Edge → ℕ
 noted [] = 0
 noted (e ∷ []) = e .service + 1
-noted (e ∷ f ∷ es) = 255
+noted (e ∷ f ∷ es) = noService
 
 abbrev pub onlyIn : ℕ → ℕ
-onlyIn n = cond (eqb n 0 || eqb n 255) 255 (n - 1)
+onlyIn n = cond (eqb n 0 || eqb n noService) noService (n - 1)
 
--- of two numbers the first, or the second; 255 where one of them is
+-- of two numbers the first, or the second; no service where one of them is
 abbrev pub ofPair : (a b : ℕ) → ℕ → ℕ
-ofPair a b zero = cond (eqb a 255 || eqb b 255) 255 a
-ofPair a b (suc i) = cond (eqb a 255 || eqb b 255) 255 b
+ofPair a b zero = cond (eqb a noService || eqb b noService) noService a
+ofPair a b (suc i) = cond (eqb a noService || eqb b noService) noService b
+
+-- of datum i / 2, by what is noted of its writers and its readers; and by the description
+abbrev pub pairBy : (writers readers : List ℕ) → ℕ → ℕ
+pairBy writers readers i = ofPair (onlyIn (getD writers (i / 2) 0)) (onlyIn (getD readers (i / 2) 0)) (i % 2)
 
 abbrev pub pairAt : Description → ℕ → ℕ
 pairAt d i = ofPair (only d Writes (i / 2)) (only d Reads (i / 2)) (i % 2)
@@ -202,10 +212,41 @@ pairAt d i = ofPair (only d Writes (i / 2)) (only d Reads (i / 2)) (i % 2)
 unfoldable pub pairsOf : Description → List ℕ
 pairsOf d = tableTo 32 (2 * length (d .blocks)) (pairAt d)
 
+-- ---- data that would do better elsewhere
+
+-- Where datum i / 8, which stands on cloud i % 8, would do better: bit k says that it would on k. 0 where that block has not one writer and
+-- one reader, or that cloud is not declared.
+abbrev pub exchangeAt : Description → ℕ → ℕ
+exchangeAt d i = cond (ltb (i % 8) (length (d .clouds)) && ltb (pairAt d (2 * (i / 8))) 16) (bits (exchanges d (i / 8) (i % 8)) 0 8) 0
+
+unfoldable pub exchangesOf : Description → List ℕ
+exchangesOf d = tableTo 128 (length (d .blocks) * 8) (exchangeAt d)
+
+-- The same by the other tables. Block m may stand on k by its mask, and what it adds there, then k, is lower than what it adds on h, then h.
+abbrev pub betterBy : (words : List ℕ) (mask m h k : ℕ) → Bool
+betterBy words mask m h k = bit mask k && before (getD words (m * 8 + k) 0 ∷ k ∷ []) (getD words (m * 8 + h) 0 ∷ h ∷ [])
+
+abbrev pub mayExchange : (bytes : List ℕ) (clouds i : ℕ) → Bool
+mayExchange bytes clouds i = ltb (i % 8) clouds && ltb (getD bytes (pairsFrom + 2 * (i / 8)) 0) 16
+
+abbrev pub exchangeBy : (words bytes : List ℕ) (clouds i : ℕ) → ℕ
+exchangeBy words bytes clouds i =
+    cond (mayExchange bytes clouds i) (bits (betterBy words (getD bytes (masksFrom + i / 8) 0) (i / 8) (i % 8)) 0 clouds) 0
+
+abbrev pub exchangesBy : (words bytes : List ℕ) (blocks clouds : ℕ) → List ℕ
+exchangesBy words bytes blocks clouds = tableTo 128 (blocks * 8) (exchangeBy words bytes clouds)
+
 -- ---- all of them
 
+abbrev pub wordsOf : Description → List ℕ
+wordsOf d = ownOf d ++ termsOf d
+
+-- with what lies behind the others
+abbrev pub bytesOf : Description → List ℕ → List ℕ
+bytesOf d exchanges = endsOf d ++ startsOf d ++ masksOf d ++ pairsOf d ++ exchanges
+
 unfoldable pub tablesOf : Description → Tables
-tablesOf d = tables (ownOf d) (termsOf d) (endsOf d) (startsOf d) (masksOf d) (pairsOf d)
+tablesOf d = tables (wordsOf d) (bytesOf d (exchangesOf d))
 
 -- a placement of the blocks alone, as sixteen bytes
 abbrev pub padded : Description → List ℕ → List ℕ

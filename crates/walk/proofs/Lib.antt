@@ -1,4 +1,6 @@
+pub mod Bits
 pub mod Branches
 pub mod Sums
 pub mod Turns
 pub mod Weights
+pub mod Whole

@@ -8,7 +8,9 @@ use lib.ListN.{length, getD, List·getD-append}
 use lib.Seq.{getD-at}
 use Rattle.sequences.specs.Lists.{below, sum}
 use Rattle.packing.specs.Packing.{digits}
-use Rattle.visiting.specs.Tables.{Tables, ownTerm, edgeTerm, start, weight, Ready}
+use Rattle.weights.specs.Weights.{termLimit}
+use Rattle.visit.specs.Tables.{Tables, termsFrom, own, term, end, ownTerm, edgeTerm, start, weight, Ready}
+use Rattle.visit.proofs.Defined.{weight-of}
 use Rattle.packing.proofs.Digits.{digits-length, digits-snoc, digit-below}
 use Rattle.walk.proofs.Sums.{sum-next, sum-below-most, sum-same}
 
@@ -18,8 +20,8 @@ part t k e q = sum (map (ownTerm t q) (below k)) + sum (map (edgeTerm t q) (belo
 
 module _ (t : Tables) where
   pub part-weight : (k : ℕ) (q : List ℕ) → weight t k q ≡ part t k (start t k) q
-  unfolding part weight
-  part-weight k q = omega arith
+  unfolding part
+  part-weight k q = weight-of t k q
 
   -- an edge's term
   pub part-edge : (k e : ℕ) (q : List ℕ) → part t k (suc e) q ≡ part t k e q + edgeTerm t q e
@@ -27,57 +29,58 @@ module _ (t : Tables) where
   part-edge k e q = omega (arith, sum-next (edgeTerm t q) e)
 
   -- the block's own term
-  part-own : (k e c : ℕ) (q : List ℕ) → length q ≡ k → part t (suc k) e (q ++ (c ∷ [])) ≡ part t k e (q ++ (c ∷ [])) + getD (t .own) (k * 8 + c) 0
-  unfolding part ownTerm
+  part-own : (k e c : ℕ) (q : List ℕ) → length q ≡ k → part t (suc k) e (q ++ (c ∷ [])) ≡ part t k e (q ++ (c ∷ [])) + own t (k * 8 + c)
+  unfolding part
   part-own k e c q l =
-      let own : getD (t .own) (k * 8 + getD (q ++ (c ∷ [])) k 0) 0 ≡ getD (t .own) (k * 8 + c) 0 = ap (λ x. getD (t .own) (k * 8 + x) 0) (getD-at q c [] 0 k l) in
+      let added : own t (k * 8 + getD (q ++ (c ∷ [])) k 0) ≡ own t (k * 8 + c) = ap (λ x. own t (k * 8 + x)) (getD-at q c [] 0 k l) in
       omega (arith, sum-next (ownTerm t (q ++ (c ∷ []))) k)
 
   module _ (n : ℕ) (r : Ready t n) where
-    pub part-small : (k e : ℕ) (q : List ℕ) → part t k e q ≤ k * 2 ^ 49 + e * (34 * 2 ^ 53)
-    unfolding part ownTerm edgeTerm
+    pub part-small : (k e : ℕ) (q : List ℕ) → part t k e q ≤ k * termLimit + e * termLimit
+    unfolding part
     part-small k e q = omega (
       arith,
-      sum-below-most (ownTerm t q) (2 ^ 49) k (λ i. omega (arith, r .ownSmall (i * 8 + getD q i 0))),
-      sum-below-most (edgeTerm t q) (34 * 2 ^ 53) e
-          (λ i. omega (arith, r .termsSmall (i * 64 + getD q (getD (t .ends) (2 * i) 0) 0 * 8 + getD q (getD (t .ends) (2 * i + 1) 0) 0))),
+      sum-below-most (ownTerm t q) termLimit k (λ i. omega (arith, r .small (i * 8 + getD q i 0))),
+      sum-below-most (edgeTerm t q) termLimit e
+          (λ i. omega (arith, r .small (termsFrom + (i * 64 + getD q (end t (2 * i)) 0 * 8 + getD q (end t (2 * i + 1)) 0)))),
     )
 
-    pub weight-small : (k : ℕ) (q : List ℕ) → k ≤ n → weight t k q ≤ 16 * 2 ^ 49 + 32 * (34 * 2 ^ 53)
+    pub weight-small : (k : ℕ) (q : List ℕ) → k ≤ n → weight t k q ≤ 48 * termLimit
     weight-small k q h = omega (arith, part-weight k q, part-small k (start t k) q, r .all k h, r .few)
 
     -- a cloud more at the end changes no term of the blocks and the edges before it
     part-kept : (k c : ℕ) (q : List ℕ) → k ≤ n → length q ≡ k → part t k (start t k) (q ++ (c ∷ [])) ≡ part t k (start t k) q
-    unfolding part ownTerm edgeTerm
+    unfolding part
     part-kept k c q h l =
         let old : (i : ℕ) → i < k → getD (q ++ (c ∷ [])) i 0 ≡ getD q i 0 = λ i j. List·getD-append q (c ∷ []) 0 i (omega arith) in
         ap₂ _+_
-        (sum-same (ownTerm t (q ++ (c ∷ []))) (ownTerm t q) k (λ i j. ap (λ x. getD (t .own) (i * 8 + x) 0) (old i j)))
+        (sum-same (ownTerm t (q ++ (c ∷ []))) (ownTerm t q) k (λ i j. ap (λ x. own t (i * 8 + x)) (old i j)))
         (sum-same (edgeTerm t (q ++ (c ∷ []))) (edgeTerm t q) (start t k)
         (λ e j. let b = r .earlier k e h j in
-        ap₂ (λ x y. getD (t .terms) (e * 64 + x * 8 + y) 0) (old (getD (t .ends) (2 * e) 0) (b .0)) (old (getD (t .ends) (2 * e + 1) 0) (omega (arith, b .0, b .1)))))
+        ap₂ (λ x y. term t (e * 64 + x * 8 + y)) (old (end t (2 * e)) (b .0)) (old (end t (2 * e + 1)) (omega (arith, b .0, b .1)))))
 
     -- the later end of an edge between start k and start (k + 1), and its other end
-    pub ends-at : (k e : ℕ) → k < n → start t k ≤ e → e < start t (k + 1) → (getD (t .ends) (2 * e) 0 ≡ k) × (getD (t .ends) (2 * e + 1) 0 ≤ k)
+    pub ends-at : (k e : ℕ) → k < n → start t k ≤ e → e < start t (k + 1) → (end t (2 * e) ≡ k) × (end t (2 * e + 1) ≤ k)
     ends-at k e h l u =
         let a = r .later k e h l u in
         (a, omega (arith, a, r .earlier (k + 1) e (omega arith) u .1))
 
     -- block k on cloud c too, before the edges
     pub part-next : (k c place : ℕ) → k < n → c < 8
-        → weight t k (digits k place) + getD (t .own) (k * 8 + c) 0 ≡ part t (k + 1) (start t k) (digits (k + 1) (place * 8 + c))
-    part-next k c place h d = rw (add-one k, digits-snoc k place c d)
-        (omega (arith, part-weight k (digits k place), part-kept k c (digits k place) (omega arith) (digits-length k place), part-own k (start t k) c (digits k place) (digits-length k place)))
+        → weight t k (digits k place) + own t (k * 8 + c) ≡ part t (k + 1) (start t k) (digits (k + 1) (place * 8 + c))
+    part-next k c place h d =
+        let q = digits k place in
+        let size = digits-length k place in
+        rw (add-one k, digits-snoc k place c d) (omega (arith, part-weight k q, part-kept k c q (omega arith) size, part-own k (start t k) c q size))
 
     -- the term of an edge, as the walk reads it
     pub edge-next : (k e c place : ℕ) → k < n → c < 8 → start t k ≤ e → e < start t (k + 1)
-        → getD (t .terms) (e * 64 + c * 8 + (place * 8 + c) / 2 ^ (3 * (k - getD (t .ends) (2 * e + 1) 0)) % 8) 0
+        → term t (e * 64 + c * 8 + (place * 8 + c) / 2 ^ (3 * (k - end t (2 * e + 1))) % 8)
         ≡ edgeTerm t (digits (k + 1) (place * 8 + c)) e
-    unfolding edgeTerm
     edge-next k e c place h d l u =
         let en = ends-at k e h l u in
-        let late : getD (digits (k + 1) (place * 8 + c)) (getD (t .ends) (2 * e) 0) 0 ≡ c =
+        let late : getD (digits (k + 1) (place * 8 + c)) (end t (2 * e)) 0 ≡ c =
         rw (en .0, add-one k, digits-snoc k place c d) (getD-at (digits k place) c [] 0 k (digits-length k place)) in
-        let soon : getD (digits (k + 1) (place * 8 + c)) (getD (t .ends) (2 * e + 1) 0) 0 ≡ (place * 8 + c) / 2 ^ (3 * (k - getD (t .ends) (2 * e + 1) 0)) % 8 =
-        rw (add-one k) (digit-below k (getD (t .ends) (2 * e + 1) 0) (place * 8 + c) (omega (arith, en .1))) in
-        ap₂ (λ x y. getD (t .terms) (e * 64 + x * 8 + y) 0) (sym late) (sym soon)
+        let soon : getD (digits (k + 1) (place * 8 + c)) (end t (2 * e + 1)) 0 ≡ (place * 8 + c) / 2 ^ (3 * (k - end t (2 * e + 1))) % 8 =
+        rw (add-one k) (digit-below k (end t (2 * e + 1)) (place * 8 + c) (omega (arith, en .1))) in
+        ap₂ (λ x y. term t (e * 64 + x * 8 + y)) (sym late) (sym soon)

@@ -4,35 +4,35 @@ use mathlib.Core.Path.{_≡_}
 use mathlib.Core.List.{List, [], _∷_, _++_, map, foldl}
 use lib.ListN.{length}
 use Rattle.sequences.specs.Lists.{keep, from, below, prefixed, sequences}
-use Rattle.visiting.specs.declared.visit.Seen.{Seen}
-use Rattle.visiting.specs.declared.visit.Task.{Task}
 use Rattle.packing.specs.Packing.{digits}
-use Rattle.visiting.specs.Tables.{Tables, tables, allowed, weight, Ready}
+use Rattle.visit.specs.Tables.{Tables, tables, allowed, weight, Ready}
+use Rattle.visit.specs.Visits.{counterCount, countLimit, tally}
 use Rattle.walk.specs.Walking.{Sight, keepAt}
 
 -- what stays the same all the way down
 pub record Setting : Type 0 where
   pub table : Tables
-  pub clouds : ℕ
   pub blocks : ℕ
-  pub task : Task
 
-abbrev pub setting : (own terms ends starts masks pairs : List ℕ) (clouds blocks : ℕ) → Task → Setting
-setting own terms ends starts masks pairs clouds blocks task =
-    record { table = tables own terms ends starts masks pairs; clouds = clouds; blocks = blocks; task = task }
+abbrev pub setting : (words bytes : List ℕ) (blocks : ℕ) → Setting
+setting words bytes blocks = record { table = tables words bytes; blocks = blocks }
 
 -- w is the weight of the first k blocks, whose clouds are the digits of place
 abbrev pub Carried : Tables → (k place w : ℕ) → Type 0
 Carried t k place w = w ≡ weight t k (digits k place)
 
--- all that was counted
-abbrev pub tally : Seen → ℕ
-tally s = s .breaking16 + s .breaking17only + s .secure + s .rows
+-- the tables are those of some blocks, and block k is one of them
+abbrev pub Within : Tables → (k : ℕ) → Type 0
+Within t k = (n : ℕ) × (k < n) × Ready t n
+
+-- there is room to count 8 ^ n placements more
+abbrev pub Room : (n : ℕ) → List ℕ → Type 0
+Room n state = tally state + counterCount * 8 ^ n ≤ countLimit
 
 module _ (S : Setting) where
   -- the clouds that each of n blocks from k on may stand on
   abbrev pub choices : (k n : ℕ) → List (List ℕ)
-  choices k n = map (λ b. keep (allowed (S .table) b) (below (S .clouds))) (from k n)
+  choices k n = map (λ b. keep (allowed (S .table) b) (below 8)) (from k n)
 
   -- the placements that begin with q, in which n blocks follow
   unfoldable pub completions : ℕ → List ℕ → List (List ℕ)
@@ -44,12 +44,11 @@ module _ (S : Setting) where
 
   -- placements are seen, one after the other
   unfoldable pub seeThese : Sight → List (List ℕ) → Sight
-  seeThese v qs = foldl (keepAt (S .table) (S .blocks) (S .task)) v qs
+  seeThese v qs = foldl (keepAt (S .table) (S .blocks)) v qs
 
   -- k blocks have their clouds, the digits of place, and n have none yet; w is the weight of those k
   pub record Under (k n w place : ℕ) : Type 0 where
     pub ready : Ready (S .table) (S .blocks)
-    pub numbers : S .clouds ≤ 8
     pub sized : k + n ≡ S .blocks
     pub low : place < 8 ^ k
     pub carried : Carried (S .table) k place w
@@ -57,7 +56,7 @@ module _ (S : Setting) where
   -- from v, all of qs were seen, and no more was counted than for 8 ^ n placements
   pub record Walked (v : Sight) (n : ℕ) (qs : List (List ℕ)) (r : Sight) : Type 0 where
     pub same : r ≡ seeThese v qs
-    pub counted : tally (r .0) ≤ tally (v .0) + 2 * 8 ^ n
+    pub counted : tally (r .0) ≤ tally (v .0) + counterCount * 8 ^ n
 
   -- the walk below the first k digits of place, with n blocks to follow
   abbrev pub WalkedBelow : (v : Sight) (k n place : ℕ) (r : Sight) → Type 0

@@ -4,10 +4,10 @@ use Rattle.description.specs.Bytes.{Bytes}
 use Rattle.description.specs.Meaning.{describes}
 use Rattle.security.specs.Soundness.{read}
 use Rattle.security.proofs.Accepted.{read-admitted}
-use Rattle.rules.proofs.Admissions.{Counted, is-accepted, is-refused}
+use Rattle.judging.proofs.Admissions.{Counted, is-accepted, is-refused}
 use Rattle.sequences.specs.Results.{Result, ok, andThen}
 use Rattle.lister.specs.Calls.{censusCall}
-use Rattle.lister.specs.Rows.{Census, census}
+use Rattle.survey.specs.Rows.{Census, census}
 use borrow.Author.Needs.{needs}
 use Rattle.lister.proofs.census.Statement.{statement}
 use Rattle.lister.proofs.census.Tie as tie

@@ -6,13 +6,13 @@ use Rattle.description.specs.Bytes.{Bytes}
 use Rattle.description.specs.Meaning.{describes}
 use Rattle.security.specs.Soundness.{read}
 use Rattle.security.proofs.Accepted.{read-admitted}
-use Rattle.rules.proofs.Admissions.{Counted, is-accepted, is-refused}
+use Rattle.judging.proofs.Admissions.{Counted, is-accepted, is-refused}
 use Rattle.sequences.specs.Results.{Result, ok, andThen}
-use Rattle.lister.specs.declared.Row.{Row}
-use Rattle.lister.specs.declared.Cursor.{Cursor}
+use Rattle.survey.specs.declared.Row.{Row}
+use Rattle.survey.specs.declared.Cursor.{Cursor}
 use Rattle.lister.specs.Answers.{drawAnswer, rowBeside}
 use Rattle.lister.specs.Calls.{drawCall}
-use Rattle.lister.specs.Rows.{draw}
+use Rattle.survey.specs.Rows.{draw}
 use borrow.Author.Needs.{needs}
 use Rattle.lister.proofs.draw.Statement.{statement}
 use Rattle.lister.proofs.draw.Tie as tie
@@ -41,11 +41,14 @@ row-past-requires c κs =
     let bytes : Bytes s = λ i. start .shared-slice-known .given i .fits in
     (read-admitted s (describes (accept .accept .last .1 .0)) (admitted .accepted) bytes, admitted .number)
 
+found-or-finished-requires : tie.Need-found-or-finished-requires
+found-or-finished-requires c κs = search needs
+
 enum-known-admission-2 : tie.Need-enum-known-admission-2
 enum-known-admission-2 c = search needs
 
-without-row-requires : tie.Need-without-row-requires
-without-row-requires c κs = search needs
+refused-requires : tie.Need-refused-requires
+refused-requires c κs = search needs
 
 -- what the call comes to for what Read gives
 abbrev called : Cursor → Result Description → Result (Option Row)
@@ -54,10 +57,12 @@ called cursor r = andThen r (λ d. ok (draw d cursor))
 returns : tie.Need-returns
 unfolding drawCall
 returns c =
-    let admission = c .before .before .before in
+    let admission = c .before .before .before .before in
     let cursor = admission .before .before .before .before .before .args .cursor in
     let same = sym (ap (called cursor) (counted admission .accepted)) in
-    (c .row-past .ensures .0 ∙ same, c .row-past .ensures .1 ∙ ap rowBeside same)
+    let next = c .before .row-past in
+    let told = c .found-or-finished in
+    (told .ensures .0 ∙ ap ok (next .ensures .0) ∙ same, told .ensures .1 ∙ next .ensures .1 ∙ ap rowBeside same)
 
 returns-2 : tie.Need-returns-2
 unfolding drawCall
@@ -67,7 +72,7 @@ returns-2 c =
     let a = accept .before .before .before .args in
     let refusal = is-refused (describes (accept .accept .last .1 .0)) (read (a .description .now)) (accept .accept .ensures .0) (told .0 .0) (told .1) in
     let same = sym (ap (called (a .cursor)) refusal) in
-    (ap drawAnswer (c .without-row .ensures) ∙ same, ap (λ x. x .row) (c .without-row .ensures) ∙ ap rowBeside same)
+    (ap drawAnswer (c .refused .ensures) ∙ same, ap (λ x. x .row) (c .refused .ensures) ∙ ap rowBeside same)
 
 pub draw-spec : {M : Type 1} → statement M
 draw-spec =
@@ -76,7 +81,8 @@ draw-spec =
     accept-requires
     enum-known-admission
     row-past-requires
+    found-or-finished-requires
     enum-known-admission-2
-    without-row-requires
+    refused-requires
     returns
     returns-2)

@@ -7,8 +7,8 @@ use lib.ListN.{length}
 use borrow.Author.Needs.{needs}
 use borrow.Author.Tests.{le-leb}
 use Rattle.sequences.specs.Results.{Result}
-use Rattle.enumeration.specs.WholeList.{listAnswer}
-use Rattle.listing.specs.Lines.{placed, placedEnd, written}
+use Rattle.whole_list.specs.WholeList.{listAnswer}
+use Rattle.list_text.specs.Lines.{placed, placedEnd, written}
 use Rattle.listoptions.specs.Making.{lastLine}
 use Rattle.listoptions.proofs.put_last.Statement.{statement}
 use Rattle.listoptions.proofs.put_last.Tie as tie

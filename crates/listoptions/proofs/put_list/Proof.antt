@@ -3,9 +3,9 @@ use Prim.Native.Nat.{ℕ, _*_, _≤_, min}
 use native.Mathlib.Omega.{arith}
 use mathlib.Core.Path.{_≡_, ap, ap₂, _∙_}
 use lib.ListN.{length, take, length-take}
-use Rattle.enumeration.specs.WholeList.{listAnswer, listCall, rowsAfter}
-use Rattle.listing.specs.Lines.{written}
-use Rattle.listing.specs.RowLines.{rowsText}
+use Rattle.whole_list.specs.WholeList.{listAnswer, listCall, rowsAfter}
+use Rattle.list_text.specs.Lines.{written}
+use Rattle.list_text.specs.RowLines.{rowsText}
 use Rattle.listoptions.specs.Making.{heldWords}
 use Rattle.listoptions.proofs.Printing.{rowsMade, rows-within, room-left, all-made}
 use borrow.Author.Needs.{needs}

@@ -1,7 +1,7 @@
 -- What Transfers answers is told, and its buffer stays as it left it.
 use mathlib.Core.Path.{_∙_}
 use lib.ListN.{length}
-use Rattle.rules.specs.Calls.{transfersCall}
+use Rattle.judging.specs.Calls.{transfersCall}
 use Rattle.panel.specs.Values.{one}
 use Rattle.panel.proofs.Told.{told, status-of, values-of}
 use borrow.Author.Needs.{needs}

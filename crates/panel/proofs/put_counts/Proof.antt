@@ -1,6 +1,6 @@
 -- Each kind of answer to Read has its status, and only what is accepted its counts.
 use mathlib.Core.Path.{refl, sym, ap}
-use Rattle.rules.specs.Answers.{readAnswer}
+use Rattle.judging.specs.Answers.{readAnswer}
 use Rattle.panel.specs.Values.{counts}
 use Rattle.panel.proofs.Told.{told}
 use borrow.Author.Needs.{needs}

@@ -1,6 +1,6 @@
 -- Each kind of answer to List has its status, and only what is listed its extent.
 use mathlib.Core.Path.{refl, sym, ap}
-use Rattle.enumeration.specs.WholeList.{listAnswer}
+use Rattle.whole_list.specs.WholeList.{listAnswer}
 use Rattle.panel.specs.Values.{extent}
 use Rattle.panel.proofs.Told.{told}
 use borrow.Author.Needs.{needs}

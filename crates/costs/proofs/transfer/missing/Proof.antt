@@ -9,8 +9,7 @@ use lib.Dec.{leb}
 use lib.ListN.{length}
 use Rattle.description.specs.Meaning.{describes}
 use Rattle.costs.specs.Transfers.{transfers, bytesOf}
-use Rattle.costs.proofs.CostBound.{transfers-length}
-use Rattle.costs.proofs.Transferring.{bytes-length}
+use Rattle.costs.proofs.Transferring.{bytes-length, transfers-few}
 use Rattle.costs.proofs.transfer.missing.Statement.{statement}
 use Rattle.costs.proofs.transfer.missing.Tie as tie
 
@@ -25,12 +24,11 @@ mul-if1 : tie.Need-mul-if1
 mul-if1 c = search needs
 
 returns : tie.Need-returns
-unfolding transfers
 returns c =
     let a = c .before .before .args in
     let d = describes (a .w .now) in
     let ts = transfers d (a .placement) in
-    let most = transfers-length 0 (a .placement) (d .edges) in
+    let most = transfers-few d (a .placement) in
     fits (length (bytesOf ts)) (a .room) (omega (arith, bytes-length ts, most, c .before .edge-count .ensures .0, c .if1 .taken))
 
 transfer-count-requires : tie.Need-transfer-count-requires

@@ -1,2 +1,0 @@
-pub mod Unsorted
-pub mod WholeList

@@ -1,0 +1,4 @@
+pub mod Admissions
+pub mod Judged
+pub mod Reached
+pub mod Refusals

@@ -1,0 +1,64 @@
+-- Each of the scope's numbers is given for some input: a table of examples with their places, one for each cause that the
+-- document names of a number.
+use Prim.Native.Nat.{ℕ}
+use mathlib.Core.Path.{_≡_}
+use mathlib.Core.List.{List, [], _∷_, _++_}
+use Rattle.judging.specs.Inputs.{cloud, datum, service, reads, writes, pin, end, times, flat, place}
+use Rattle.judging.specs.Calls.{readCall, judgeCall, transfersCall}
+use Rattle.sequences.specs.Results.{refused}
+
+-- six services and six data: thirty-two reads, and one more
+abbrev pub manyReads : List ℕ
+manyReads =
+    times 6 (service 0 0) ++ times 6 (datum 0) ++
+    readsOf 0 ++ readsOf 1 ++ readsOf 2 ++ readsOf 3 ++ readsOf 4 ++ reads 5 6 ++ reads 5 7 ++ reads 5 8 ++ end
+  where
+    readsOf : ℕ → List ℕ
+    readsOf s = reads s 6 ++ reads s 7 ++ reads s 8 ++ reads s 9 ++ reads s 10 ++ reads s 11
+
+-- a datum of level 1 and a service of location 0, on a cloud of each level
+abbrev pub twoLevels : List ℕ
+twoLevels = cloud 0 ++ cloud 1 ++ datum 1 ++ service 0 1
+
+pub record Reached : Type 0 where
+  -- the input ends inside a command; without 00
+  pub number1 : (readCall (cloud 0 ++ (2 ∷ [])) ≡ refused 1 10) × (readCall (cloud 0 ++ datum 0) ≡ refused 1 16)
+  -- an unknown command
+  pub number2 : readCall (cloud 0 ++ (7 ∷ [])) ≡ refused 2 10
+  -- a byte follows 00
+  pub number3 : readCall (cloud 0 ++ datum 0 ++ end ++ end) ≡ refused 3 17
+  -- a ninth cloud; a seventeenth block; a thirty-third edge
+  pub number4 : (readCall (flat 0 9) ≡ refused 4 80) × (readCall (flat 17 0) ≡ refused 4 96) × (readCall manyReads ≡ refused 4 174)
+  -- a level, a location, a clearance above 15
+  pub number5 :
+      (readCall (cloud 0 ++ cloud 16 ++ end) ≡ refused 5 10) × (readCall (service 16 0) ≡ refused 5 0) ×
+      (readCall (service 0 16) ≡ refused 5 0)
+  -- a name undeclared; of the wrong kind
+  pub number6 : (readCall (cloud 0 ++ pin 0 0) ≡ refused 6 10) × (readCall (datum 0 ++ datum 0 ++ reads 0 1) ≡ refused 6 12)
+  -- an edge repeated; a second writer; a second pin
+  pub number7 :
+      (readCall (service 0 0 ++ datum 0 ++ reads 0 1 ++ reads 0 1) ≡ refused 7 16) ×
+      (readCall (service 0 0 ++ service 0 0 ++ datum 0 ++ writes 0 2 ++ writes 1 2) ≡ refused 7 23) ×
+      (readCall (cloud 0 ++ datum 0 ++ pin 0 0 ++ pin 0 0) ≡ refused 7 19)
+  -- no cloud; no block
+  pub number8 : (readCall (datum 0 ++ end) ≡ refused 8 7) × (readCall (cloud 0 ++ end) ≡ refused 8 11)
+  -- rule 2, of block 1
+  pub number9 : readCall (cloud 0 ++ datum 0 ++ service 1 0 ++ end) ≡ refused 9 1
+  -- rule 3, of edge 0
+  pub number10 : readCall (cloud 0 ++ service 0 0 ++ datum 1 ++ reads 0 1 ++ end) ≡ refused 10 0
+  -- rule 4, of edge 1: a read may do what a write may not
+  pub number11 : readCall (cloud 0 ++ service 1 1 ++ datum 0 ++ reads 0 1 ++ writes 0 1 ++ end) ≡ refused 11 1
+  -- 3^11 candidates
+  pub number12 : readCall (flat 11 3) ≡ refused 12 0
+  -- an undeclared cloud; a cloud of too low a level; a pin not kept; a position past the last block that isn't 0
+  pub number13 :
+      (judgeCall (flat 2 1) (place 0 1 0 0 0) ≡ refused 13 1) ×
+      (judgeCall (twoLevels ++ end) (place 0 0 0 0 0) ≡ refused 13 0) ×
+      (judgeCall (twoLevels ++ pin 1 0 ++ end) (place 1 1 0 0 0) ≡ refused 13 1) ×
+      (judgeCall (flat 2 2) (place 0 1 1 0 0) ≡ refused 13 2)
+  -- rule 16, of edge 1, which goes before rule 17, of edge 0
+  pub number14 : judgeCall (twoLevels ++ writes 1 0 ++ reads 1 0 ++ end) (place 1 0 0 0 0) ≡ refused 14 1
+  -- rule 17, of edge 0
+  pub number15 : judgeCall (twoLevels ++ writes 1 0 ++ end) (place 1 0 0 0 0) ≡ refused 15 0
+  -- a transfer needs 4 bytes, and the buffer has 3
+  pub number16 : transfersCall (cloud 0 ++ cloud 0 ++ datum 0 ++ service 0 0 ++ reads 1 0 ++ end) (place 0 1 0 0 0) 3 ≡ refused 16 4

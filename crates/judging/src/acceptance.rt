@@ -1,0 +1,72 @@
+// What Read accepts: a decoded description that keeps rules 2 to 4 and has few enough candidates.
+ghost use mathlib.Core.Path.{_≡_};
+ghost use Rattle.description.specs.Meaning.{describes, Cleared};
+ghost use Rattle.security.specs.Soundness.{sound, read};
+ghost use Rattle.judging.specs.Answers.{admissionOf, counted};
+use crate::answers::Admission;
+use description::decode::decode;
+use description::words::Words;
+use description::words::clear;
+use description::workflow::Outcome;
+use description::workflow::Refusal;
+use security::answers::Found;
+use security::answers::Rule;
+use security::placements::first_breaking;
+use security::soundness::candidate_count;
+use security::soundness::first_breaking_rule2;
+
+// The numbers that a decoded description is refused with.
+const RULE_2: u8 = 9;
+
+const RULE_3: u8 = 10;
+
+const RULE_4: u8 = 11;
+
+const TOO_MANY_CANDIDATES: u8 = 12;
+
+const MOST_CANDIDATES: u64 = 65536;
+
+fn refused(number: u8, place: usize) -> Admission
+    ensures { λ r. ⌜ r ≡ Admission.Refused (record { number = number; place = place }) ⌝ }
+{
+    Admission::Refused(Refusal { number, place })
+}
+
+// Rules 2 to 4 and the limit on candidates, in the order of their numbers.
+fn soundness(w: &Words) -> Admission
+    ensures { λ r. ⌜ admissionOf r (describes (now (w .entry))) ≡ counted (sound (describes (now (w .entry)))) ⌝ }
+{
+    let block = first_breaking_rule2(w);
+    if let Found::At(b) = block {
+        return refused(RULE_2, b);
+    }
+    let read = first_breaking(w, [0u8; 16], Rule::Rule3);
+    if let Found::At(n) = read {
+        return refused(RULE_3, n);
+    }
+    let write = first_breaking(w, [0u8; 16], Rule::Rule4);
+    if let Found::At(n) = write {
+        return refused(RULE_4, n);
+    }
+    let candidates = candidate_count(w);
+    if MOST_CANDIDATES < candidates {
+        return refused(TOO_MANY_CANDIDATES, 0);
+    }
+    Admission::Accepted(candidates)
+}
+
+// What Read accepts, decoded into the words; a refusal leaves them cleared.
+pub fn accept(description: &[u8], w: &mut Words) -> Admission
+    ensures { λ r. ⌜ admissionOf r (describes (now (w .exit))) ≡ counted (read (now (description .entry))) ⌝ }
+    ensures { λ _. ⌜ Cleared (read (now (description .entry))) (now (w .exit)) ⌝ }
+{
+    let outcome = decode(description, w);
+    if let Outcome::Refused(r) = outcome {
+        return Admission::Refused(r);
+    }
+    let admission = soundness(w);
+    if let Admission::Refused(_) = admission {
+        clear(w);
+    }
+    admission
+}

@@ -1,0 +1,62 @@
+// Read, Judge and Transfers: the three calls that need no list of placements.
+ghost use mathlib.Core.Path.{_≡_};
+ghost use lib.ListN.{length};
+ghost use Rattle.sequences.specs.Results.{ok, andThen};
+ghost use Rattle.judging.specs.Answers.{readAnswer};
+ghost use Rattle.security.specs.Answers.{judgeAnswer};
+ghost use Rattle.costs.specs.Answers.{transfersAnswer};
+ghost use Rattle.judging.specs.Calls.{readCall, judgeCall, transfersCall};
+ghost use Rattle.costs.specs.Transfers.{bufferAfter};
+
+pub mod acceptance;
+pub mod answers;
+
+use answers::Acceptance;
+use answers::Admission;
+use costs::answers::Transferred;
+use description::words::WORDS;
+use description::workflow::block_count;
+use description::workflow::cloud_count;
+use description::workflow::edge_count;
+use security::answers::Verdict;
+
+// Read: the counts of clouds, blocks and edges of an accepted description, or its first refusal.
+pub fn read(description: &[u8]) -> Acceptance
+    ensures { λ r. ⌜ readAnswer r ≡ readCall (now (description .entry)) ⌝ }
+{
+    let mut w = [0u32; WORDS];
+    let admission = acceptance::accept(description, &mut w);
+    match admission {
+        Admission::Accepted(_) => Acceptance::Accepted {
+            clouds: cloud_count(&w),
+            blocks: block_count(&w),
+            edges: edge_count(&w),
+        },
+        Admission::Refused(r) => Acceptance::Refused(r),
+    }
+}
+
+// Judge a placement: secure, or the number and place of what it breaks first.
+pub fn judge(description: &[u8], placement: [u8; 16]) -> Verdict
+    ensures { λ r. ⌜ judgeAnswer r ≡ judgeCall (now (description .entry)) placement ⌝ }
+{
+    let mut w = [0u32; WORDS];
+    let admission = acceptance::accept(description, &mut w);
+    match admission {
+        Admission::Accepted(_) => security::placements::verdict(&w, placement),
+        Admission::Refused(r) => Verdict::Refused(r),
+    }
+}
+
+// The transfers of a secure placement, in edge order, four bytes each, at the front of the buffer.
+pub fn transfers(description: &[u8], placement: [u8; 16], buffer: &mut [u8]) -> Transferred
+    ensures { λ r. ⌜ transfersAnswer r ≡ andThen (transfersCall (now (description .entry)) placement (length (now (buffer .entry)))) (λ ts. ok (length ts)) ⌝ }
+    ensures { λ r. ⌜ now (buffer .exit) ≡ bufferAfter (transfersCall (now (description .entry)) placement (length (now (buffer .entry)))) (now (buffer .entry)) ⌝ }
+{
+    let mut w = [0u32; WORDS];
+    let admission = acceptance::accept(description, &mut w);
+    match admission {
+        Admission::Accepted(_) => costs::transfer::written_if_secure(&w, placement, buffer),
+        Admission::Refused(r) => Transferred::Refused(r),
+    }
+}

@@ -1,0 +1,50 @@
+-- What is proved of the lines: a decimal is read back and has no leading zero, no line is empty or longer than it is said here, and worked
+-- examples.
+use Prim.Native.Nat.{ℕ, _+_, _-_, _*_, _^_, _<_, _≤_}
+use mathlib.Core.Path.{_≡_}
+use mathlib.Core.List.{List, [], _∷_}
+use lib.ListN.{length, getD}
+use Rattle.list_text.specs.Lines.{ascii, digit, decimal, rowLine, optionsLine, refusalLine}
+use Rattle.list_text.specs.RowLines.{wordsLine, linesOf}
+
+-- the number that digits stand for, behind digits that stand for `front`
+abbrev pub valueAfter : ℕ → List ℕ → ℕ
+valueAfter front [] = front
+valueAfter front (d ∷ ds) = valueAfter (front * 10 + (d - 48)) ds
+
+abbrev pub value : List ℕ → ℕ
+value = valueAfter 0
+
+-- s is n in decimal: it has digits only, n is read back from it, and it begins with 0, or is empty, only where it is "0" itself
+pub record Decimal (n : ℕ) (s : List ℕ) : Type 0 where
+  pub digits : (k : ℕ) → k < length s → (48 ≤ getD s k 0) × (getD s k 0 < 58)
+  pub back : value s ≡ n
+  pub leading : getD s 0 48 ≡ 48 → s ≡ ascii "0"
+
+-- a line of so many bytes at most, and of one at least, so that the offset behind it is another
+pub record Sized (line : List ℕ) (most : ℕ) : Type 0 where
+  pub some : 0 < length line
+  pub few : length line ≤ most
+
+pub record Sizes : Type 0 where
+  pub row : (cost : ℕ) (placement : List ℕ) (blocks : ℕ) → cost < 2 ^ 64 → length placement ≡ 16 → Sized (rowLine cost placement blocks) 38
+  pub options : (count : ℕ) → count < 2 ^ 64 → Sized (optionsLine count) 29
+  pub refusal : (number place : ℕ) → number < 2 ^ 8 → place < 2 ^ 64 → Sized (refusalLine number place) 33
+
+pub record RowLines : Type 0 where
+  pub line : (blocks cost place : ℕ) → blocks ≤ 16 → cost < 2 ^ 64 → Sized (wordsLine blocks cost place) 38
+
+pub record Examples : Type 0 where
+  pub zero : decimal 0 ≡ ascii "0"
+  pub nine : decimal 9 ≡ ascii "9"
+  pub ten : decimal 10 ≡ ascii "10"
+  pub largest : decimal (2 ^ 64 - 1) ≡ ascii "18446744073709551615"
+  pub row : rowLine 2820 (1 ∷ 1 ∷ 1 ∷ 1 ∷ 1 ∷ 0 ∷ 0 ∷ 0 ∷ 0 ∷ 0 ∷ 0 ∷ 0 ∷ 0 ∷ 0 ∷ 0 ∷ 0 ∷ []) 5 ≡ ascii "2820 11111\n"
+  pub nextRow : rowLine 2840 (1 ∷ 1 ∷ 1 ∷ 1 ∷ 0 ∷ 0 ∷ 0 ∷ 0 ∷ 0 ∷ 0 ∷ 0 ∷ 0 ∷ 0 ∷ 0 ∷ 0 ∷ 0 ∷ []) 5 ≡ ascii "2840 11110\n"
+  -- the same two rows as words; a word alone behind them is no row
+  pub rows : linesOf 5 (2820 ∷ 4681 ∷ 2840 ∷ 4680 ∷ 2860 ∷ []) ≡ ascii "2820 11111\n2840 11110\n"
+  pub options : optionsLine 6 ≡ ascii "options 6\n"
+  pub refusal : refusalLine 14 0 ≡ ascii "refused 14 0\n"
+  -- the bytes of two texts, written out
+  pub bytes : (ascii "options " ≡ 111 ∷ 112 ∷ 116 ∷ 105 ∷ 111 ∷ 110 ∷ 115 ∷ 32 ∷ []) × (ascii "09\n" ≡ 48 ∷ 57 ∷ 10 ∷ [])
+  pub clouds : (k : ℕ) → k < 8 → digit k ≡ 48 + k

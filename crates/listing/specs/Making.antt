@@ -1,8 +1,0 @@
--- A line in the making: its text stands at the end of the array.
-use Prim.Native.Nat.{ℕ}
-use mathlib.Core.List.{List}
-use lib.ListN.{drop}
-use Rattle.listing.specs.declared.Line.{Line}
-
-unfoldable pub text : Line → List ℕ
-text line = drop (line .start) (line .bytes)

@@ -1,0 +1,9 @@
+pub mod Ends
+pub mod Exchanges
+pub mod Locality
+pub mod Mixing
+pub mod Moving
+pub mod Options
+pub mod Paths
+pub mod Representatives
+pub mod Storage

@@ -1,0 +1,77 @@
+-- The rows rise, and are those of the placements that stand for their options; and a draw can be made by one walk over the candidates.
+use Prim.Native.Nat.{ℕ}
+use mathlib.Core.Path.{_≡_, refl, sym, ap, _∙_}
+use mathlib.Core.Logic.{_↔_, Iff·trans}
+use mathlib.Core.Bool.{true, _&&_}
+use mathlib.Core.List.{List, map, foldl, List·Memᴰ, Memᴰ·map, Memᴰ·of-map, Memᴰ·cast}
+use mathlib.Core.Option.{none}
+use Rattle.description.specs.Format.{Description}
+use Rattle.security.specs.Soundness.{candidates}
+use Rattle.security.specs.Placements.{secure}
+use Rattle.security.proofs.Candidates.{candidates-once}
+use Rattle.survey.specs.declared.Row.{Row}
+use Rattle.survey.specs.declared.Cursor.{Cursor}
+use Rattle.survey.specs.Rows.{securePlacements, earlier, rowOf, stands, rows, later, draw}
+use Rattle.survey.proofs.RowOrder.{earlier-order, rowOf-apart}
+use Rattle.sequences.specs.Ascending.{Ascending, Once}
+use Rattle.sequences.specs.Draws.{betterIf}
+use Rattle.sequences.specs.Orders.{Least}
+use Rattle.sequences.specs.Lists.{keep, find, sort}
+use Rattle.sequences.proofs.Ascending.{keep-once, map-once}
+use Rattle.sequences.proofs.Draws.{find-least, walk-is-first}
+use Rattle.sequences.proofs.Members.{keep-members}
+use Rattle.sequences.proofs.Parts.{keep-both}
+use Rattle.sequences.proofs.Sorting.{sort-members, sort-ascends}
+
+-- each secure placement is there once
+pub secure-once : (d : Description) → Once (securePlacements d)
+unfolding securePlacements
+secure-once d = keep-once (secure d) (candidates d) (candidates-once d)
+
+module _ (d : Description) where
+  -- the rows before they are sorted
+  abbrev pub unsorted : List Row
+  unsorted = map (rowOf d) (keep (stands d) (securePlacements d))
+
+  pub unsorted-once : Once unsorted
+  unsorted-once =
+      map-once (rowOf d) (rowOf-apart d) (keep (stands d) (securePlacements d)) (keep-once (stands d) (securePlacements d) (secure-once d))
+
+  unsorted-members : (r : Row)
+      → List·Memᴰ r unsorted ↔ ((p : List ℕ) × List·Memᴰ p (securePlacements d) × (stands d p ≡ true) × (rowOf d p ≡ r))
+  unsorted-members r = (
+    λ m.
+        let (p, k, e) = Memᴰ·of-map (rowOf d) (keep (stands d) (securePlacements d)) m in
+        let (i, s) = keep-members (stands d) (securePlacements d) p .0 k in
+        (p, i, s, e),
+    λ (p, i, s, e). Memᴰ·cast (sym e) (Memᴰ·map (rowOf d) (keep-members (stands d) (securePlacements d) p .1 (i, s))),
+  )
+
+  -- the rows rise strictly
+  pub rows-rise : Ascending earlier (rows d)
+  unfolding rows
+  rows-rise = sort-ascends earlier-order unsorted unsorted-once
+
+  -- they are the rows of the secure placements that stand for their options
+  pub rows-standing : (r : Row)
+      → List·Memᴰ r (rows d) ↔ ((p : List ℕ) × List·Memᴰ p (securePlacements d) × (stands d p ≡ true) × (rowOf d p ≡ r))
+  unfolding rows
+  rows-standing r = Iff·trans (sort-members earlier unsorted r) (unsorted-members r)
+
+-- a draw is one walk over the candidates: of those that are secure and stand for their options, it keeps the first past the cursor
+pub draw-walks : (d : Description) (c : Cursor)
+    → draw d c ≡ foldl (betterIf earlier (later c) (λ p. secure d p && stands d p) (rowOf d)) none (candidates d)
+unfolding draw rows securePlacements
+draw-walks d c =
+    ap (λ (l : List (List ℕ)). find (later c) (sort earlier (map (rowOf d) l))) (keep-both (secure d) (stands d) (candidates d)) ∙
+    sym (walk-is-first earlier (later c) (λ p. secure d p && stands d p) (rowOf d) earlier-order (candidates d))
+
+-- the rows are those of the placements, sorted; and a draw answers the first of them that is past its cursor
+module _ (d : Description) where
+  pub rows-sorted : rows d ≡ sort earlier (unsorted d)
+  unfolding rows
+  rows-sorted = refl
+
+  pub draw-least : (c : Cursor) → Least earlier (λ r. List·Memᴰ r (unsorted d) × (later c r ≡ true)) (draw d c)
+  unfolding draw rows
+  draw-least c = find-least earlier-order (later c) (unsorted d)

@@ -1,0 +1,9 @@
+pub mod Counting
+pub mod Cursors
+pub mod Drawing
+pub mod Joins
+pub mod Keeping
+pub mod RowOrder
+pub mod RowsInWords
+pub mod Standing
+pub mod Walked

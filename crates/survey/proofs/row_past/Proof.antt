@@ -1,0 +1,102 @@
+-- The row that the walk kept is the row that the draw answers.
+use Prim.Native.Nat.{_-_, _^_, _<_}
+use native.Mathlib.Omega.{arith}
+use mathlib.Core.Path.{sym, ap, subst, _∙_}
+use mathlib.Core.List.{_++_}
+use lib.ListN.{getD, replicate}
+use Rattle.description.specs.Meaning.{describes}
+use Rattle.packing.specs.Packing.{digits}
+use Rattle.visit.specs.Visits.{bestPlaceAt}
+use Rattle.survey.specs.Answers.{rowIn, rowOr}
+use Rattle.survey.specs.Rows.{draw}
+use Rattle.survey.specs.Surveys.{Asks}
+use Rattle.survey.proofs.Joins.{starts, KeptRow, kept-by, none-kept, some-kept, kept-low}
+use borrow.Author.Needs.{needs}
+use Rattle.survey.proofs.row_past.Statement.{statement}
+use Rattle.survey.proofs.row_past.Tie as tie
+
+block-count-requires : tie.Need-block-count-requires
+block-count-requires c κs = search needs
+
+to-draw-past-requires : tie.Need-to-draw-past-requires
+to-draw-past-requires c κs = search needs
+
+slice-aggregate-walk-candidates : tie.Need-slice-aggregate-walk-candidates
+slice-aggregate-walk-candidates c = search needs
+
+walk-candidates-requires : tie.Need-walk-candidates-requires
+walk-candidates-requires c κs =
+    let drawing = c .before .before in
+    let s = drawing .before .before in
+    (s .pre .0, (s .pre .1, starts (drawing .to-draw-past .ensures .words)))
+
+array-read-if1 : tie.Need-array-read-if1
+array-read-if1 c = search needs
+
+no-row-requires : tie.Need-no-row-requires
+no-row-requires c κs = search needs
+
+-- what the walk kept
+kept : (c : tie.After-walk-candidates)
+    → let a = c .before .before .before .before .before .args in
+    KeptRow (describes (a .w .now)) (draw (describes (a .w .now)) (a .cursor)) (c .walk-candidates .last .1 .1 .0)
+kept c =
+    let drawing = c .before .before .before in
+    let blocks = drawing .before .block-count in
+    let s = drawing .before .before in
+    let cursor = s .args .cursor in
+    let asked = subst (λ n. Asks cursor n (drawing .to-draw-past .result)) (blocks .ensures .0) (drawing .to-draw-past .ensures) in
+    let seen = c .walk-candidates in
+    kept-by (describes (s .args .w .now)) (s .pre .0) cursor (drawing .to-draw-past .result) (seen .last .1 .1 .0) asked (seen .ensures .0)
+
+returns : tie.Need-returns
+returns c =
+    let seen = c .before .before .before in
+    let a = seen .before .before .before .before .before .args in
+    let d = describes (a .w .now) in
+    let e = none-kept d (draw d (a .cursor)) (seen .walk-candidates .last .1 .1 .0) (kept seen) (c .before .if1 .taken) in
+    (ap rowIn (c .no-row .ensures) ∙ sym e, ap (λ x. x .row) (c .no-row .ensures) ∙ ap rowOr (sym e))
+
+array-read-t14 : tie.Need-array-read-t14
+array-read-t14 c = search needs
+
+array-read-unpacked : tie.Need-array-read-unpacked
+array-read-unpacked c = search needs
+
+unpacked-requires : tie.Need-unpacked-requires
+unpacked-requires c κs =
+    let seen = c .before .before in
+    let words = seen .walk-candidates .last .1 .1 .0 in
+    let blocks = seen .before .before .before .before .block-count in
+    let a = seen .before .before .before .before .before .args in
+    let d = describes (a .w .now) in
+    let low = kept-low d (draw d (a .cursor)) words (kept seen) (c .if1 .left) in
+    (omega (arith, blocks .ensures .1), subst (λ n. getD words bestPlaceAt 0 < 8 ^ n) (sym (blocks .ensures .0)) low)
+
+returns-2 : tie.Need-returns-2
+returns-2 c =
+    let seen = c .before .before .before in
+    let words = seen .walk-candidates .last .1 .1 .0 in
+    let place = getD words bestPlaceAt 0 in
+    let blocks = seen .before .before .before .before .block-count in
+    let a = seen .before .before .before .before .before .args in
+    let d = describes (a .w .now) in
+    let bytes = c .unpacked .ensures ∙ ap (λ n. digits n place ++ replicate (16 - n) 0) (blocks .ensures .0) in
+    let e = some-kept d (draw d (a .cursor)) words (kept seen) (c .before .if1 .left) (c .unpacked .result) bytes in
+    (sym e, ap rowOr (sym e))
+
+pub row-past-spec : {M : Type 1} → statement M
+row-past-spec =
+    tie.close
+    (tie.spec
+    block-count-requires
+    to-draw-past-requires
+    slice-aggregate-walk-candidates
+    walk-candidates-requires
+    array-read-if1
+    no-row-requires
+    returns
+    array-read-t14
+    array-read-unpacked
+    unpacked-requires
+    returns-2)

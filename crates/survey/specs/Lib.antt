@@ -1,0 +1,5 @@
+pub mod Answers
+pub mod Joining
+pub mod RowWords
+pub mod Rows
+pub mod Surveys

@@ -1,0 +1,22 @@
+-- Rows as words in lent memory.
+use Prim.Native.Nat.{ℕ, _*_}
+use mathlib.Core.List.{List, map}
+use lib.ListN.{length, take}
+use Rattle.sequences.specs.Lists.{keep}
+use Rattle.description.specs.Format.{Description}
+use Rattle.packing.specs.Packing.{pack}
+use Rattle.sorting.specs.Rows.{flat}
+use Rattle.survey.specs.declared.Row.{Row}
+use Rattle.survey.specs.Rows.{securePlacements, rowOf, stands, rows}
+
+-- a row as two words: its cost, and the clouds of its blocks as digits to the base 8
+abbrev pub rowWords : Description → Row → ℕ × ℕ
+rowWords d r = (r .cost, pack (take (length (d .blocks)) (r .placement)))
+
+-- how many words all rows are
+abbrev pub needed : Description → ℕ
+needed d = length (rows d) * 2
+
+-- the words of the rows as a walk meets them: by their placements' bytes alone
+unfoldable pub unsorted : Description → List ℕ
+unsorted d = flat (map (λ p. rowWords d (rowOf d p)) (keep (stands d) (securePlacements d)))

@@ -1,0 +1,59 @@
+-- Census, rows and draw, of an accepted description.
+use Prim.Native.Nat.{ℕ}
+use mathlib.Core.Bool.{Bool, not, _&&_, _||_}
+use mathlib.Core.List.{List, _∷_, map}
+use mathlib.Core.Option.{Option}
+use lib.ListN.{length}
+use Rattle.description.specs.Format.{Description}
+use Rattle.security.specs.Soundness.{candidates}
+use Rattle.security.specs.Placements.{broken16, broken17, secure}
+use Rattle.costs.specs.Cost.{cost}
+use Rattle.options.specs.Options.{sameOption}
+use Rattle.survey.specs.declared.Row.{Row}
+use Rattle.survey.specs.declared.Cursor.{Cursor}
+use Rattle.sequences.specs.Lists.{any, keep, find, distinctBy, before, sort}
+
+unfoldable pub securePlacements : Description → List (List ℕ)
+securePlacements d = keep (secure d) (candidates d)
+
+-- Census. How many different options there are: of placements that are the same one, only the last is counted.
+abbrev pub distinct : Description → List (List ℕ) → List (List ℕ)
+distinct d = distinctBy (sameOption d)
+
+pub record Census : Type 0 where
+  pub candidates : ℕ
+  pub breaking16 : ℕ
+  pub breaking17only : ℕ
+  pub secure : ℕ
+  pub options : ℕ
+
+unfoldable pub census : Description → Census
+census d = record {
+  candidates = length (candidates d);
+  breaking16 = length (keep (broken16 d) (candidates d));
+  breaking17only = length (keep (λ p. not (broken16 d p) && broken17 d p) (candidates d));
+  secure = length (securePlacements d);
+  options = length (distinct d (securePlacements d));
+}
+
+-- Rows come by cost and then by their sixteen bytes, compared from the first.
+abbrev pub earlier : Row → Row → Bool
+earlier r s = before (r .cost ∷ r .placement) (s .cost ∷ s .placement)
+
+abbrev pub rowOf : Description → List ℕ → Row
+rowOf d p = record { cost = cost d p; placement = p }
+
+-- p stands for its option: no secure placement of the same option is earlier by cost and then bytes
+unfoldable pub stands : Description → List ℕ → Bool
+stands d p = not (any (λ q. sameOption d q p && earlier (rowOf d q) (rowOf d p)) (securePlacements d))
+
+-- one row for each option, in rising order
+unfoldable pub rows : Description → List Row
+rows d = sort earlier (map (rowOf d) (keep (stands d) (securePlacements d)))
+
+-- Draw: the first row strictly later than the cursor; none: finished
+abbrev pub later : Cursor → Row → Bool
+later c r = c .start || earlier (record { cost = c .cost; placement = c .placement }) r
+
+unfoldable pub draw : Description → Cursor → Option Row
+draw d c = find (later c) (rows d)

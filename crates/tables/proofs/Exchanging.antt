@@ -1,0 +1,153 @@
+-- The table of exchanges: by the other tables it is what the description says, and a bit of it says where a datum would do better.
+use Prim.Native.Nat.{ℕ, _+_, _*_, _/_, _%_, _≤_, _<_}
+use native.Mathlib.Nat.{zero-add}
+use native.Mathlib.Decide.{decLt}
+use native.Mathlib.Omega.{arith}
+use mathlib.Core.Path.{_≡_, refl, sym, ap, ap₂, _∙_}
+use mathlib.Core.Bool.{Bool, true, false, _&&_, _||_, cond}
+use mathlib.Core.List.{List, [], _∷_, _++_}
+use lib.Dec.{ltb, eqb, lit<}
+use lib.ListN.{length, getD, take, replicate}
+use borrow.Author.Tests.{lt-ltb, le-ltb, eq-eqb, ne-eqb, ltb-true}
+use Rattle.description.specs.Format.{Description, namesBlock}
+use Rattle.description.specs.declared.workflow.Way.the-variants.{Reads, Writes}
+use Rattle.description.specs.Invariants.{WellFormed}
+use Rattle.security.specs.Soundness.{mayStand}
+use Rattle.security.proofs.Undeclared.{no-cloud}
+use Rattle.costs.specs.Terms.{blockTerm}
+use Rattle.costs.proofs.Charges.{datum-charge}
+use Rattle.options.specs.Representatives.{exchanges, storedOn}
+use Rattle.options.proofs.Exchanges.{exchanges-are}
+use Rattle.sequences.specs.Lists.{before}
+use Rattle.sequences.proofs.Tests.{both-pass, cond-ind}
+use Rattle.visit.specs.Tables.{tables, bit, exchange}
+use Rattle.tables.specs.Building.{bits, maskOf, masksOf, ownOf, only, ofPair, pairAt, exchangeAt, exchangesOf}
+use Rattle.tables.specs.Building.{betterBy, mayExchange, exchangeBy, exchangesBy, wordsOf, bytesOf, tablesOf}
+use Rattle.tables.proofs.Bits.{bit-bits, bits-same, bits-cut, bits-small}
+use Rattle.tables.proofs.Filling.{getD-table, getD-tableTo, tableTo-same}
+use Rattle.tables.proofs.Places.{own-in, mask-in, last-in, other-last}
+use Rattle.tables.proofs.Paired.{first-of-pair, paired-datum}
+
+-- ---- two pairs of numbers
+
+nothing-more : (s t : Bool) → (s || (t && false)) ≡ s
+nothing-more true t = refl
+nothing-more false true = refl
+nothing-more false false = refl
+
+-- the first numbers decide, and of equal ones the second
+pub pairs-tie : (x y k h : ℕ) → x ≡ y → before (x ∷ k ∷ []) (y ∷ h ∷ []) ≡ ltb k h
+pairs-tie x y k h e = simp (le-ltb x y (omega arith), eq-eqb x y e) (nothing-more (ltb k h) (eqb k h))
+
+pub pairs-differ : (x y k h : ℕ) → (x ≡ y → ⊥) → before (x ∷ k ∷ []) (y ∷ h ∷ []) ≡ ltb x y
+pairs-differ x y k h e = simp (ne-eqb x y e) (nothing-more (ltb x y) false)
+
+-- ---- entries
+
+where-passed : (t : Bool) (x y : ℕ) → (t ≡ true → x ≡ y) → cond t x 0 ≡ cond t y 0
+where-passed true x y h = h refl
+where-passed false x y h = refl
+
+-- where an entry has no exchange, the rest of its row has none
+pub none-after : (bytes : List ℕ) (clouds i j : ℕ) → mayExchange bytes clouds i ≡ false → i % 8 ≤ j % 8 → j / 8 ≡ i / 8 → mayExchange bytes clouds j ≡ false
+none-after bytes clouds i j h l row = elim (decLt (j % 8) clouds) [
+  | yes there ↦
+      let pair : ltb (getD bytes (97 + 2 * (i / 8)) 0) 16 ≡ false = simp (lt-ltb (i % 8) clouds (omega arith)) at h in
+      simp (row, lt-ltb (j % 8) clouds there) pair
+  | no past ↦ simp (le-ltb (j % 8) clouds (omega arith))
+]
+
+-- what a block adds
+pub own-at : (d : Description) (b k : ℕ) → b < 16 → k < 8 → getD (wordsOf d) (b * 8 + k) 0 ≡ blockTerm d b k
+unfolding ownOf
+own-at d b k h l =
+    let i = b * 8 + k in
+    let low : i < 128 = omega arith in
+    let quo : i / 8 ≡ b = omega arith in
+    let rem : i % 8 ≡ k = omega arith in
+    own-in d i low ∙ getD-table 128 (λ j. blockTerm d (j / 8) (j % 8)) i low ∙ ap₂ (blockTerm d) quo rem
+
+-- where a block may stand
+pub mask-at : (d : Description) (last : List ℕ) (b k : ℕ) → b < 16 → b < length (d .blocks) → k < 8
+    → bit (getD (bytesOf d last) (81 + b) 0) k ≡ mayStand d b k
+unfolding masksOf maskOf
+mask-at d last b k low h l =
+    ap (λ (m : ℕ). bit m k) (mask-in d last b low ∙ getD-table 16 (maskOf d) b low ∙ simp (lt-ltb b (length (d .blocks)) h)) ∙
+    bit-bits (mayStand d b) 0 8 k l ∙ ap (mayStand d b) (zero-add k)
+
+-- a mask has eight bits
+pub mask-low : (d : Description) (last : List ℕ) (b : ℕ) → b < 16 → getD (bytesOf d last) (81 + b) 0 < 256
+unfolding masksOf maskOf
+mask-low d last b low =
+    rw (mask-in d last b low, getD-table 16 (maskOf d) b low)
+    (cond-ind (λ (m : ℕ). m < 256) (namesBlock d b) (bits (mayStand d b) 0 8) 0 (λ _. bits-small (mayStand d b) 0 8) (λ _. lit< tt))
+
+module _ (d : Description) (wf : WellFormed d) where
+  -- the pair of datum m
+  pair-of : (m : ℕ) → pairAt d (2 * m) ≡ ofPair (only d Writes m) (only d Reads m) 0
+  pair-of m =
+      let q : 2 * m / 2 ≡ m = omega arith in
+      let r : 2 * m % 2 ≡ 0 = omega arith in
+      ap₂ (λ (a b : ℕ). ofPair (only d Writes a) (only d Reads a) b) q r
+
+  -- a datum, by its mask and by what it adds, which is its storage
+  better-is : (last : List ℕ) (m h k : ℕ) → m < length (d .blocks) → h < 8 → k < 8 → ofPair (only d Writes m) (only d Reads m) 0 < 16
+      → betterBy (wordsOf d) (getD (bytesOf d last) (81 + m) 0) m h k ≡ exchanges d m h k
+  better-is last m h k there hlow klow pair =
+      let low : m < 16 = omega (arith, wf .limits .blocks) in
+      let datum = paired-datum d wf m pair in
+      let stored : (c : ℕ) → c < 8 → getD (wordsOf d) (m * 8 + c) 0 ≡ storedOn d m c = λ c l. own-at d m c low l ∙ datum-charge d m c datum in
+      ap₂ _&&_ (mask-at d last m k low there klow)
+      (ap₂ (λ (x y : ℕ). before (x ∷ k ∷ []) (y ∷ h ∷ [])) (stored k klow) (stored h hlow)) ∙ sym (exchanges-are d m h k)
+
+  -- nowhere but on declared clouds
+  no-exchange : (m h k : ℕ) → m < length (d .blocks) → length (d .clouds) ≤ k → exchanges d m h k ≡ false
+  no-exchange m h k there past = exchanges-are d m h k ∙ simp (no-cloud d m k there past)
+
+  -- an entry by the other tables
+  exchange-is : (last : List ℕ) (i : ℕ) → i < length (d .blocks) * 8 → exchangeBy (wordsOf d) (bytesOf d last) (length (d .clouds)) i ≡ exchangeAt d i
+  exchange-is last i h =
+      let m = i / 8 in
+      let c = i % 8 in
+      let n = length (d .clouds) in
+      let there : m < length (d .blocks) = omega arith in
+      let few = wf .limits .clouds in
+      let tell = first-of-pair d wf last m there in
+      let by = bits (betterBy (wordsOf d) (getD (bytesOf d last) (81 + m) 0) m c) 0 n in
+      ap (λ (p : ℕ). cond (ltb c n && ltb p 16) by 0) (tell ∙ sym (pair-of m)) ∙
+      where-passed (ltb c n && ltb (pairAt d (2 * m)) 16) by (bits (exchanges d m c) 0 8) (λ t.
+      let pair = ltb-true (pairAt d (2 * m)) 16 (both-pass (ltb c n) (ltb (pairAt d (2 * m)) 16) .0 t .1) in
+      let low : ofPair (only d Writes m) (only d Reads m) 0 < 16 = rw (pair-of m) at pair in
+      bits-same _ (exchanges d m c) 0 n (λ k l u. better-is last m c k there (omega arith) (omega arith) low) ∙
+      bits-cut (exchanges d m c) n 8 few (λ k l. no-exchange m c k there l))
+
+  -- a bit of the table of the description
+  pub exchange-bit : (m h k : ℕ) → m < length (d .blocks) → h < length (d .clouds) → k < 8 → ofPair (only d Writes m) (only d Reads m) 0 < 16
+      → bit (exchange (tablesOf d) (m * 8 + h)) k ≡ exchanges d m h k
+  unfolding tablesOf exchangesOf
+  exchange-bit m h k there declared klow pair =
+      let i = m * 8 + h in
+      let few = wf .limits .clouds in
+      let quo : i / 8 ≡ m = omega arith in
+      let rem : i % 8 ≡ h = omega arith in
+      let low : i < 128 = omega (arith, wf .limits .blocks) in
+      let first : pairAt d (2 * m) < 16 = rw (pair-of m) pair in
+      let entry : getD (exchangesOf d) i 0 ≡ bits (exchanges d m h) 0 8 =
+      getD-tableTo 128 (length (d .blocks) * 8) (exchangeAt d) i low (omega arith) ∙
+      rw (quo, rem) (simp (lt-ltb h (length (d .clouds)) declared, lt-ltb (pairAt d (2 * m)) 16 first)) in
+      ap (λ (x : ℕ). bit x k) (last-in d (exchangesOf d) i ∙ entry) ∙ bit-bits (exchanges d m h) 0 8 k klow ∙ ap (exchanges d m h) (zero-add k)
+
+  -- ---- all tables, once the exchanges are laid behind the others
+
+  pub tables-are : {words before after : List ℕ} {blocks clouds : ℕ} → words ≡ wordsOf d → before ≡ bytesOf d (replicate 128 0)
+      → blocks ≡ length (d .blocks) → clouds ≡ length (d .clouds)
+      → after ≡ take 129 before ++ exchangesBy words before blocks clouds → tables words after ≡ tablesOf d
+  unfolding tablesOf exchangesOf
+  tables-are {words} {before} {blocks = blocks} {clouds = clouds} w b m n e =
+      let zeros : List ℕ = replicate 128 0 in
+      let count = ap (λ (x : ℕ). x * 8) m in
+      let last : exchangesBy words before blocks clouds ≡ exchangesOf d =
+      tableTo-same 128 (blocks * 8) (length (d .blocks) * 8) (exchangeBy words before clouds) (exchangeAt d) count (λ i l.
+      let by : exchangeBy words before clouds i ≡ exchangeBy (wordsOf d) (bytesOf d zeros) (length (d .clouds)) i = rw (w, b, n) refl in
+      by ∙ exchange-is zeros i (omega (arith, count))) in
+      ap₂ tables w (e ∙ ap₂ (λ (x y : List ℕ). take 129 x ++ y) b last ∙ other-last d zeros (exchangesOf d))

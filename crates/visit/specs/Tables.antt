@@ -1,0 +1,134 @@
+-- Tables of a problem: what each block adds to a placement's weight on each cloud, what each edge adds, where blocks may stand, and which
+-- data would do better on which cloud. They lie one behind the other in lent words and lent bytes.
+use Prim.Native.Nat.{ℕ, _+_, _*_, _/_, _%_, _^_, _≤_, _<_}
+use mathlib.Core.Path.{_≡_}
+use mathlib.Core.Bool.{Bool, false, not, cond}
+use mathlib.Core.List.{List, map}
+use mathlib.Core.Option.{Option, none, some}
+use lib.Dec.{ltb, eqb}
+use lib.ListN.{getD}
+use Rattle.weights.specs.Weights.{termLimit}
+use Rattle.sequences.specs.Lists.{any, keep, below, sequences, sum}
+
+pub record Tables : Type 0 where
+  pub words : List ℕ
+  pub bytes : List ℕ
+
+abbrev pub tables : (words bytes : List ℕ) → Tables
+tables words bytes = record { words = words; bytes = bytes }
+
+-- ---- where each table begins
+
+abbrev pub ownFrom : ℕ
+ownFrom = 0
+
+abbrev pub termsFrom : ℕ
+termsFrom = 128
+
+abbrev pub endsFrom : ℕ
+endsFrom = 0
+
+abbrev pub startsFrom : ℕ
+startsFrom = 64
+
+abbrev pub masksFrom : ℕ
+masksFrom = 81
+
+abbrev pub pairsFrom : ℕ
+pairsFrom = 97
+
+abbrev pub exchangesFrom : ℕ
+exchangesFrom = 129
+
+-- bit k of m
+unfoldable pub bit : ℕ → ℕ → Bool
+bit m k = eqb (m / 2 ^ k % 2) 1
+
+module _ (t : Tables) where
+  -- what block b adds on cloud k, at b * 8 + k
+  abbrev pub own : ℕ → ℕ
+  own i = getD (t .words) i 0
+
+  -- what edge i adds with its later end on x and its other end on y, at i * 64 + x * 8 + y
+  abbrev pub term : ℕ → ℕ
+  term i = getD (t .words) (termsFrom + i) 0
+
+  -- the later end of edge i at 2 * i, its other end at 2 * i + 1: blocks
+  abbrev pub end : ℕ → ℕ
+  end i = getD (t .bytes) i 0
+
+  -- at k, how many edges have a later end below k; the edges stand in the order of their later ends
+  abbrev pub start : ℕ → ℕ
+  start k = getD (t .bytes) (startsFrom + k) 0
+
+  -- bit k of the mask of b is set where block b may stand on cloud k
+  abbrev pub mask : ℕ → ℕ
+  mask b = getD (t .bytes) (masksFrom + b) 0
+
+  -- the writer and the only reader of datum m at 2 * m and 2 * m + 1; 16 or more where it has not one of each
+  abbrev pub pair : ℕ → ℕ
+  pair i = getD (t .bytes) (pairsFrom + i) 0
+
+  -- at m * 8 + h, bit k is set where datum m, which stands on h, would do better on k
+  abbrev pub exchange : ℕ → ℕ
+  exchange i = getD (t .bytes) (exchangesFrom + i) 0
+
+  -- ---- placements of n blocks
+
+  -- block b may stand on cloud k
+  abbrev pub allowed : ℕ → ℕ → Bool
+  allowed b k = bit (mask b) k
+
+  -- all of them, in lexicographic order
+  unfoldable pub placements : (n : ℕ) → List (List ℕ)
+  placements n = sequences (map (λ b. keep (allowed b) (below 8)) (below n))
+
+  -- what block b and edge i add at a placement
+  abbrev pub ownTerm : List ℕ → ℕ → ℕ
+  ownTerm q b = own (b * 8 + getD q b 0)
+
+  abbrev pub edgeTerm : List ℕ → ℕ → ℕ
+  edgeTerm q i = term (i * 64 + getD q (end (2 * i)) 0 * 8 + getD q (end (2 * i + 1)) 0)
+
+  -- the weight of the first n blocks, with the edges between them
+  unfoldable pub weight : ℕ → List ℕ → ℕ
+  weight n q = sum (map (ownTerm q) (below n)) + sum (map (edgeTerm q) (below (start n)))
+
+  -- ---- the row test
+
+  -- Where datum m, on cloud b, lies between a writer on a and its only reader on c, with b one of the two and those different: the other.
+  abbrev pub otherEnd : (a c b : ℕ) → Option ℕ
+  otherEnd a c b = cond (eqb a c) none (cond (eqb b a) (some c) (cond (eqb b c) (some a) none))
+
+  abbrev pub movesTo : List ℕ → ℕ → Option ℕ
+  movesTo q m = cond (ltb (pair (2 * m)) 16) (otherEnd (getD q (pair (2 * m)) 0) (getD q (pair (2 * m + 1)) 0) (getD q m 0)) none
+
+  -- datum m would do better there
+  abbrev pub betterOn : List ℕ → ℕ → Option ℕ → Bool
+  betterOn q m none = false
+  betterOn q m (some k) = bit (exchange (m * 8 + getD q m 0)) k
+
+  -- no datum of the first n blocks would do better at its other end
+  unfoldable pub stands : ℕ → List ℕ → Bool
+  stands n q = not (any (λ m. betterOn q m (movesTo q m)) (below n))
+
+  -- What the row test asks of the tables of n blocks.
+  pub record Paired (n : ℕ) : Type 0 where
+    -- writers and readers are blocks
+    pub pairsSmall : (m : ℕ) → m < n → pair (2 * m) < 16 → (pair (2 * m) < n) × (pair (2 * m + 1) < n)
+
+  -- What the walk asks of the tables of n blocks.
+  pub record Ready (n : ℕ) : Type 0 where
+    pub inhabited : 0 < n
+    pub few : n ≤ 16
+    -- the edges before start k have both ends below k, the later one first; those from there on have a later end of k or above
+    pub earlier : (k i : ℕ) → k ≤ n → i < start k → (end (2 * i) < k) × (end (2 * i + 1) ≤ end (2 * i))
+    pub later : (k i : ℕ) → k < n → start k ≤ i → i < start (k + 1) → end (2 * i) ≡ k
+    pub rising : (k : ℕ) → k < n → start k ≤ start (k + 1)
+    pub none : start 0 ≡ 0
+    pub all : (k : ℕ) → k ≤ n → start k ≤ 32
+    -- no term of 16 blocks and 32 edges takes a weight to 2^64
+    pub small : (i : ℕ) → getD (t .words) i 0 < termLimit
+    -- a mask has eight bits
+    pub masked : (b : ℕ) → b < n → mask b < 256
+    pub paired : Paired n

@@ -1,4 +1,0 @@
-pub mod Finding
-pub mod Rows
-pub mod Seeing
-pub mod Tallies

@@ -1,0 +1,36 @@
+-- A weight is one number for a placement that tells its cost and what it breaks: the cost, with `first` for each edge that breaks the rule
+-- that is looked for first, and `second` for each that breaks the other. A cost is below 2^53 and there are at most 32 edges, so that
+-- neither the cost nor the first kind ever carries over.
+use Prim.Native.Nat.{ℕ, _+_, _*_, _/_, _%_, _^_}
+use mathlib.Core.Bool.{Bool, cond}
+use lib.Dec.{ltb, eqb}
+
+-- every cost is below it
+abbrev pub costLimit : ℕ
+costLimit = 2 ^ 53
+
+-- more than there can be edges
+abbrev pub radix : ℕ
+radix = 33
+
+abbrev pub first : ℕ
+first = costLimit
+
+abbrev pub second : ℕ
+second = radix * costLimit
+
+-- what one edge adds is below it: one penalty, and a charge below 2^53
+abbrev pub termLimit : ℕ
+termLimit = (radix + 1) * costLimit
+
+-- a weight below the limit is the cost of a secure placement
+abbrev pub isSecure : ℕ → Bool
+isSecure w = ltb w costLimit
+
+-- The class of a placement: 0 where it is secure, 1 where it breaks the rule that is looked for first, 2 where it breaks the other alone.
+-- There is room for one class more.
+abbrev pub classes : ℕ
+classes = 4
+
+unfoldable pub classOf : ℕ → ℕ
+classOf w = cond (isSecure w) 0 (cond (eqb (w / costLimit % radix) 0) 2 1)

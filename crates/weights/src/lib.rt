@@ -1,0 +1,37 @@
+// A placement's cost and what it breaks, in one number: its weight. The numbers are named here for all code.
+ghost use mathlib.Core.Path.{_≡_};
+ghost use Prim.Native.Nat.{_<_};
+ghost use Rattle.weights.specs.Weights.{classes, classOf};
+
+// 2^53, which is above every cost.
+pub const COST_LIMIT: u64 = 9007199254740992;
+
+// More than there can be edges.
+pub const RADIX: u64 = 33;
+
+// What an edge adds that breaks the rule that is looked for first, and what one adds that breaks the other: 33 times 2^53.
+pub const FIRST: u64 = COST_LIMIT;
+
+pub const SECOND: u64 = 297237575406452736;
+
+// The classes of placements. There is room for one more, and then the number of classes.
+pub const SECURE: usize = 0;
+
+pub const BREAKS_FIRST: usize = 1;
+
+pub const BREAKS_SECOND: usize = 2;
+
+pub const CLASSES: usize = 4;
+
+// The class of a placement, by its weight.
+pub fn class_of(weight: u64) -> usize
+    ensures { λ r. ⌜ (r ≡ classOf weight) × (r < classes) ⌝ }
+{
+    if weight < COST_LIMIT {
+        return SECURE;
+    }
+    if weight / COST_LIMIT % RADIX == 0 {
+        return BREAKS_SECOND;
+    }
+    BREAKS_FIRST
+}

@@ -1,0 +1,3 @@
+pub mod Answers
+pub mod Refusals
+pub mod Sorted

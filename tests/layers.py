@@ -1,0 +1,57 @@
+#!/usr/bin/env python3
+"""The layer above cites what the layer below promises.
+
+Prints every place where a proof unfolds a definition of a crate below its own, and
+fails if there is one.  Computed examples are left out: they unfold what they compute.
+"""
+import pathlib
+import re
+import sys
+
+CRATES = pathlib.Path(__file__).resolve().parent.parent / "crates"
+DEFINED = re.compile(r"^ *unfoldable (?:pub )?([^\s:]+) *:", re.MULTILINE)
+USED = re.compile(r"^use Rattle·(\w+)(?:·\w+)?\.(?:specs|proofs)\.[^{}\n]*\.\{([^}]*)\}", re.MULTILINE)
+UNFOLDING = re.compile(r"^( *)unfolding\b(.*(?:\n\1 +\S.*)*)", re.MULTILINE)
+COMPUTED = {"Examples.antt", "Interview.antt", "Reached.antt"}
+
+
+def names_used(text):
+    """Each name that a file takes from a crate: what it is called here, and the crate."""
+    found = {}
+    for crate, names in USED.findall(text):
+        for name in names.split(","):
+            words = name.split()
+            if words:
+                found[words[-1]] = crate
+    return found
+
+
+def unfolded_below(path):
+    """The definitions of other crates that a file unfolds, each with its line and crate."""
+    text = path.read_text()
+    crate = path.relative_to(CRATES).parts[0]
+    used = names_used(text)
+    own = set(DEFINED.findall(text))
+    for match in UNFOLDING.finditer(text):
+        line = text.count("\n", 0, match.start()) + 1
+        for name in match.group(2).split():
+            below = used.get(name, crate)
+            if below != crate and name not in own:
+                yield line, name, below
+
+
+def main():
+    found = 0
+    for path in sorted(CRATES.rglob("*.antt")):
+        if path.name in COMPUTED:
+            continue
+        for line, name, below in unfolded_below(path):
+            found += 1
+            print(f"{path.relative_to(CRATES)}:{line}: unfolds {name} of {below}")
+    if found:
+        sys.exit(f"layers: {found} definitions are unfolded above their crates")
+    print("layers: no definition is unfolded above its crate")
+
+
+if __name__ == "__main__":
+    main()
