@@ -1,4 +1,4 @@
--- The answers of a chain's links, in their order, are the answers that item 3 speaks of.
+-- The answers of a chain's links, in their order, are the answers that `draws-list-every-row` speaks of.
 use Prim.Native.Nat.{ℕ, zero, suc}
 use mathlib.Core.Path.{_≡_, refl, sym, ap, _∙_}
 use mathlib.Core.List.{List, _∷_, _++_, map}

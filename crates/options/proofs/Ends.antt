@@ -17,13 +17,13 @@ use Rattle.description.specs.Invariants.{WellFormed}
 use Rattle.security.specs.Placements.{serviceCloud, datumCloud, moves}
 use Rattle.costs.specs.Cost.{chargedOf, edgeCost}
 use Rattle.options.specs.Options.{writersOf, readersOf, stem, branch, joined, part, partOf}
-use Rattle.options.specs.Representatives.{dataOf, storedOn, share, otherEnd, between, movesTo, SameServices}
+use Rattle.options.specs.Representatives.{dataOf, storedOn, share, between, movesTo, SameServices}
 use Rattle.options.proofs.Locality.{data-are, edge-service, edge-datum}
 use Rattle.security.proofs.Moves.{moves-apart}
 use Rattle.costs.proofs.EdgeCosts.{edge-cost}
 use Rattle.options.proofs.Options.{datum-part}
 use Rattle.options.proofs.Paths.{beside, path, path-ends, end-apart, end-paths, carried, end-carried}
-use Rattle.sequences.specs.Lists.{keep, before}
+use Rattle.sequences.specs.Lists.{keep, before, otherEnd}
 use Rattle.sequences.proofs.Tests.{both-pass, not-passed}
 use Rattle.sequences.proofs.Members.{keep-members}
 use Rattle.sequences.proofs.Agreeing.{keep-none, keep-one}

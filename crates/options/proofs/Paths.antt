@@ -11,7 +11,7 @@ use mathlib.Core.Option.{some, Option·some-ne-none}
 use lib.Dec.{eqb}
 use lib.ListN.{length}
 use borrow.Author.Tests.{eq-eqb, ne-eqb}
-use Rattle.options.specs.Representatives.{otherEnd}
+use Rattle.sequences.specs.Lists.{otherEnd}
 use Rattle.sequences.proofs.Equality.{snoc-same}
 
 -- a cloud, if it isn't o

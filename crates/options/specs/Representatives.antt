@@ -2,7 +2,7 @@
 use Prim.Native.Nat.{ℕ, _+_, _<_}
 use mathlib.Core.Path.{_≡_}
 use mathlib.Core.Logic.{_⊎_}
-use mathlib.Core.Bool.{Bool, true, false, not, _&&_, cond}
+use mathlib.Core.Bool.{Bool, true, false, not, _&&_}
 use mathlib.Core.List.{List, [], _∷_, map, List·Memᴰ}
 use mathlib.Core.Option.{Option, none, some}
 use lib.ListN.{length, getD, set}
@@ -13,7 +13,7 @@ use Rattle.security.specs.Soundness.{mayStand, candidates}
 use Rattle.security.specs.Placements.{serviceCloud, secure}
 use Rattle.costs.specs.Cost.{storageOf, edgeCost, cost}
 use Rattle.options.specs.Options.{writersOf, readersOf, partOf, sameOption}
-use Rattle.sequences.specs.Lists.{any, keep, below, sum, equalBy, same, before}
+use Rattle.sequences.specs.Lists.{any, keep, below, sum, equalBy, same, before, otherEnd}
 
 -- ---- a datum's share of the cost
 
@@ -46,10 +46,6 @@ unfoldable pub standsLocally : Description → List ℕ → Bool
 standsLocally d p = not (any (λ n. any (betterOn d p n) (below 8)) (dataOf d))
 
 -- ---- the same test by storage alone
-
--- where b is one of a and c, and those differ: the other of them
-abbrev pub otherEnd : (a c b : ℕ) → Option ℕ
-otherEnd a c b = cond (eqb a c) none (cond (eqb b a) (some c) (cond (eqb b c) (some a) none))
 
 -- of what stands on b, by its writers and readers: where there is one of each, they are the two ends
 abbrev pub between : List ℕ → ℕ → (writers readers : List Edge) → Option ℕ

@@ -88,3 +88,7 @@ before [] [] = false
 before [] (y ∷ ys) = true
 before (x ∷ xs) [] = false
 before (x ∷ xs) (y ∷ ys) = ltb x y || (eqb x y && before xs ys)
+
+-- where b is one of a and c, and those differ: the other of them
+abbrev pub otherEnd : (a c b : ℕ) → Option ℕ
+otherEnd a c b = cond (eqb a c) none (cond (eqb b a) (some c) (cond (eqb b c) (some a) none))

@@ -1,5 +1,5 @@
 -- Which secure placements stand for their options: exactly one for each option, the first by cost and then bytes; and for a well formed
--- description the tests of `rules` that look at one datum at a time tell which.
+-- description the tests of `options` that look at one datum at a time tell which.
 use Prim.Native.Nat.{ℕ}
 use mathlib.Core.Path.{_≡_, sym, _∙_}
 use mathlib.Core.Logic.{_↔_, _⊎_}

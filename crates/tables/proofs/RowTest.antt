@@ -13,12 +13,12 @@ use Rattle.description.specs.declared.workflow.Way.the-variants.{Reads, Writes}
 use Rattle.description.specs.Format.{Description}
 use Rattle.description.specs.Invariants.{WellFormed}
 use Rattle.options.specs.Options.{writersOf, readersOf}
-use Rattle.options.specs.Representatives.{between, movesTo, exchanges, cheaperOn, standsByStorage, otherEnd}
+use Rattle.options.specs.Representatives.{between, movesTo, exchanges, cheaperOn, standsByStorage}
 use Rattle.options.proofs.Exchanges.{moves-between, stands-by-storage}
 use Rattle.options.proofs.Locality.{edge-service}
 use Rattle.options.proofs.Mixing.{block-low}
 use Rattle.options.proofs.Options.{service-named}
-use Rattle.sequences.specs.Lists.{keep, below}
+use Rattle.sequences.specs.Lists.{keep, below, otherEnd}
 use Rattle.sequences.proofs.Agreeing.{any-agree}
 use Rattle.sequences.proofs.Members.{keep-members, below-members}
 use Rattle.visit.specs.Tables.{betterOn as betterBy, movesTo as movesBy, stands as standsBy}

@@ -3,12 +3,13 @@
 use Prim.Native.Nat.{ℕ, _+_, _*_, _/_, _%_, _^_, _≤_, _<_}
 use mathlib.Core.Path.{_≡_}
 use mathlib.Core.Bool.{Bool, false, not, cond}
-use mathlib.Core.List.{List, map}
+use mathlib.Core.List.{List, [], map}
 use mathlib.Core.Option.{Option, none, some}
 use lib.Dec.{ltb, eqb}
 use lib.ListN.{getD}
+use Rattle.packing.specs.Packing.{digits}
 use Rattle.weights.specs.Weights.{termLimit}
-use Rattle.sequences.specs.Lists.{any, keep, below, sequences, sum}
+use Rattle.sequences.specs.Lists.{any, keep, below, sequences, sum, otherEnd}
 
 pub record Tables : Type 0 where
   pub words : List ℕ
@@ -96,10 +97,7 @@ module _ (t : Tables) where
 
   -- ---- the row test
 
-  -- Where datum m, on cloud b, lies between a writer on a and its only reader on c, with b one of the two and those different: the other.
-  abbrev pub otherEnd : (a c b : ℕ) → Option ℕ
-  otherEnd a c b = cond (eqb a c) none (cond (eqb b a) (some c) (cond (eqb b c) (some a) none))
-
+  -- where datum m, between one writer and one reader and on the cloud of one of the two, would still be in the same option: on the other's
   abbrev pub movesTo : List ℕ → ℕ → Option ℕ
   movesTo q m = cond (ltb (pair (2 * m)) 16) (otherEnd (getD q (pair (2 * m)) 0) (getD q (pair (2 * m + 1)) 0) (getD q m 0)) none
 
@@ -132,3 +130,7 @@ module _ (t : Tables) where
     -- a mask has eight bits
     pub masked : (b : ℕ) → b < n → mask b < 256
     pub paired : Paired n
+
+-- the row test of a packed placement looks at the bytes alone
+abbrev pub standsIn : (bytes : List ℕ) (n place : ℕ) → Bool
+standsIn bytes n place = stands (tables [] bytes) n (digits n place)

@@ -5,9 +5,8 @@ ghost use mathlib.Core.Bool.{true};
 ghost use mathlib.Core.List.{[]};
 ghost use Prim.Native.Nat.{_<_, _≤_};
 ghost use lib.ListN.{length};
-ghost use Rattle.packing.specs.Packing.{digits};
 ghost use Rattle.weights.specs.Weights.{classOf};
-ghost use Rattle.visit.specs.Tables.{Paired, tables, stands};
+ghost use Rattle.visit.specs.Tables.{Paired, tables, standsIn};
 ghost use Rattle.visit.specs.Visits.{stateSize, counting, countLimit, tally, wanted, oneMore, counted, drawn, see, withRow, keepRow};
 
 pub mod rowtest;
@@ -61,7 +60,7 @@ fn is_wanted(state: &State, cost: u64, place: u64) -> bool
 fn draw(bytes: &TableBytes, blocks: usize, weight: u64, place: u64, state: &mut State)
     requires { ⌜ length (now state) ≡ stateSize ⌝ }
     requires { ⌜ (blocks ≤ 16) × Paired (tables [] (now bytes)) blocks ⌝ }
-    ensures { λ _. ⌜ now (state .exit) ≡ drawn weight place (stands (tables [] (now (bytes .entry))) blocks (digits blocks place)) (now (state .entry)) ⌝ }
+    ensures { λ _. ⌜ now (state .exit) ≡ drawn weight place (standsIn (now (bytes .entry)) blocks place) (now (state .entry)) ⌝ }
 {
     if !is_wanted(state, weight, place) {
         return;
@@ -107,8 +106,8 @@ fn count(
     requires { ⌜ (length (now state) ≡ stateSize) × (tally (now state) < countLimit) ⌝ }
     requires { ⌜ (blocks ≤ 16) × Paired (tables [] (now bytes)) blocks ⌝ }
     requires { ⌜ counting (now state) ≡ true ⌝ }
-    ensures { λ _. ⌜ now (state .exit) ≡ counted weight (stands (tables [] (now (bytes .entry))) blocks (digits blocks place)) (now (state .entry)) ⌝ }
-    ensures { λ _. ⌜ now (kept .exit) ≡ keepRow weight place (stands (tables [] (now (bytes .entry))) blocks (digits blocks place)) (now (state .entry)) (now (kept .entry)) ⌝ }
+    ensures { λ _. ⌜ now (state .exit) ≡ counted weight (standsIn (now (bytes .entry)) blocks place) (now (state .entry)) ⌝ }
+    ensures { λ _. ⌜ now (kept .exit) ≡ keepRow weight place (standsIn (now (bytes .entry)) blocks place) (now (state .entry)) (now (kept .entry)) ⌝ }
 {
     let rows = state[ROWS];
     count_class(weight, state);
@@ -133,8 +132,8 @@ fn count_or_draw(
 )
     requires { ⌜ (length (now state) ≡ stateSize) × (tally (now state) < countLimit) ⌝ }
     requires { ⌜ (blocks ≤ 16) × Paired (tables [] (now bytes)) blocks ⌝ }
-    ensures { λ _. ⌜ now (state .exit) ≡ see weight place (stands (tables [] (now (bytes .entry))) blocks (digits blocks place)) (now (state .entry)) ⌝ }
-    ensures { λ _. ⌜ now (kept .exit) ≡ keepRow weight place (stands (tables [] (now (bytes .entry))) blocks (digits blocks place)) (now (state .entry)) (now (kept .entry)) ⌝ }
+    ensures { λ _. ⌜ now (state .exit) ≡ see weight place (standsIn (now (bytes .entry)) blocks place) (now (state .entry)) ⌝ }
+    ensures { λ _. ⌜ now (kept .exit) ≡ keepRow weight place (standsIn (now (bytes .entry)) blocks place) (now (state .entry)) (now (kept .entry)) ⌝ }
 {
     if state[COUNTING] == 1 {
         count(bytes, blocks, weight, place, state, kept);
@@ -154,8 +153,8 @@ pub fn meet(
 )
     requires { ⌜ (length (now state) ≡ stateSize) × (tally (now state) < countLimit) ⌝ }
     requires { ⌜ (blocks ≤ 16) × Paired (tables [] (now bytes)) blocks ⌝ }
-    ensures { λ _. ⌜ now (state .exit) ≡ see weight place (stands (tables [] (now (bytes .entry))) blocks (digits blocks place)) (now (state .entry)) ⌝ }
-    ensures { λ _. ⌜ now (kept .exit) ≡ keepRow weight place (stands (tables [] (now (bytes .entry))) blocks (digits blocks place)) (now (state .entry)) (now (kept .entry)) ⌝ }
+    ensures { λ _. ⌜ now (state .exit) ≡ see weight place (standsIn (now (bytes .entry)) blocks place) (now (state .entry)) ⌝ }
+    ensures { λ _. ⌜ now (kept .exit) ≡ keepRow weight place (standsIn (now (bytes .entry)) blocks place) (now (state .entry)) (now (kept .entry)) ⌝ }
 {
     if state[COUNTING] != 1 {
         if state[BEST_COST] < weight {

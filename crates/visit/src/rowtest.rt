@@ -3,7 +3,7 @@ ghost use mathlib.Core.Path.{_≡_};
 ghost use mathlib.Core.List.{[]};
 ghost use Prim.Native.Nat.{_*_, _+_, _≤_, _<_};
 ghost use Rattle.packing.specs.Packing.{digits};
-ghost use Rattle.visit.specs.Tables.{Paired, tables, bit, exchange, betterOn, movesTo, stands};
+ghost use Rattle.visit.specs.Tables.{Paired, tables, bit, exchange, betterOn, movesTo, standsIn};
 use crate::tables::EXCHANGES;
 use crate::tables::PAIRS;
 use crate::tables::TableBytes;
@@ -51,7 +51,7 @@ fn moves(bytes: &TableBytes, blocks: usize, place: u64, m: usize) -> bool
 pub fn stands(bytes: &TableBytes, blocks: usize, place: u64) -> bool
     requires { ⌜ blocks ≤ 16 ⌝ }
     requires { ⌜ Paired (tables [] (now bytes)) blocks ⌝ }
-    ensures { λ r. ⌜ r ≡ stands (tables [] (now (bytes .entry))) blocks (digits blocks place) ⌝ }
+    ensures { λ r. ⌜ r ≡ standsIn (now (bytes .entry)) blocks place ⌝ }
 {
     let mut m = 0;
     while m < blocks {

@@ -10,7 +10,7 @@ use lib.ListN.{length}
 use Rattle.sequences.specs.Lists.{below}
 use Rattle.packing.specs.Packing.{digits}
 use Rattle.packing.proofs.Digits.{digits-none, digits-length, digits-snoc, pack-digits}
-use Rattle.visit.specs.Tables.{Tables, tables, mask, allowed, weight, stands, placements, Ready}
+use Rattle.visit.specs.Tables.{Tables, mask, allowed, weight, stands, standsIn, placements, Ready}
 use Rattle.visit.specs.Visits.{stateSize, counterCount, tally, see, keepRow}
 use Rattle.visit.proofs.Counters.{see-tally}
 use Rattle.visit.proofs.Rows.{bit-off, bit-on, stands-bytes}
@@ -72,7 +72,7 @@ module _ (S : Setting) where
   -- what meeting a placement does
   abbrev met : (w place : ℕ) → Sight → Sight
   met w place s =
-      let st = stands (tables [] (S .table .bytes)) (S .blocks) (digits (S .blocks) place) in
+      let st = standsIn (S .table .bytes) (S .blocks) place in
       (see w place st (s .0), keepRow w place st (s .0) (s .1))
 
   leaf : (w place : ℕ) (s r : Sight) → length (s .0) ≡ stateSize → Under S (S .blocks) 0 w place → r ≡ met w place s
@@ -85,7 +85,7 @@ module _ (S : Setting) where
         same = h ∙ ap₂ (λ x z. both x place z) (u .carried) (stands-bytes (S .table .words) (S .table .bytes) (S .blocks) q)
             ∙ ap (λ y. both (weight (S .table) (S .blocks) q) y (stands (S .table) (S .blocks) q)) (sym (pack-digits (S .blocks) place (u .low)))
             ∙ ap (seeThese S s) (sym (completions-none S q));
-        counted = rw h (see-tally w place (stands (tables [] (S .table .bytes)) (S .blocks) q) (s .0) size);
+        counted = rw h (see-tally w place (standsIn (S .table .bytes) (S .blocks) place) (s .0) size);
       }
 
   pub leaf-walked : (left w place : ℕ) (s r : Sight) → left ≡ 0 → length (s .0) ≡ stateSize → Under S (S .blocks - left) left w place → r ≡ met w place s

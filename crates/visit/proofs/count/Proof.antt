@@ -2,10 +2,8 @@
 use native.Mathlib.Omega.{arith}
 use mathlib.Core.Path.{sym, ap, _∙_}
 use mathlib.Core.Bool.{Bool}
-use mathlib.Core.List.{[]}
 use borrow.Author.Tests.{not-true, not-false}
-use Rattle.packing.specs.Packing.{digits}
-use Rattle.visit.specs.Tables.{tables, stands}
+use Rattle.visit.specs.Tables.{standsIn}
 use Rattle.visit.specs.Visits.{rowsAt, oneMore}
 use Rattle.visit.proofs.Cases.{counted-broken, counted-other, counted-row, kept-broken, kept-other, kept-row}
 use Rattle.visit.proofs.Counters.{rows-stay}
@@ -15,7 +13,7 @@ use Rattle.visit.proofs.count.Tie as tie
 
 -- the row test
 abbrev row-test : tie.Start → Bool
-row-test s = let a = s .args in stands (tables [] (a .bytes .now)) (a .blocks) (digits (a .blocks) (a .place))
+row-test s = let a = s .args in standsIn (a .bytes .now) (a .blocks) (a .place)
 
 element-copy-out-rows : tie.Need-element-copy-out-rows
 element-copy-out-rows c = search needs

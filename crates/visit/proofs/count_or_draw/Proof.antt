@@ -1,11 +1,9 @@
 -- The walk counts, or it draws.
 use mathlib.Core.Path.{sym, _∙_}
 use mathlib.Core.Bool.{Bool}
-use mathlib.Core.List.{[]}
 use lib.ListN.{getD}
 use borrow.Author.Tests.{eq-eqb, ne-eqb}
-use Rattle.packing.specs.Packing.{digits}
-use Rattle.visit.specs.Tables.{tables, stands}
+use Rattle.visit.specs.Tables.{standsIn}
 use Rattle.visit.specs.Visits.{countingAt}
 use Rattle.visit.proofs.Cases.{see-draws, see-counts, none-kept}
 use borrow.Author.Needs.{needs}
@@ -14,7 +12,7 @@ use Rattle.visit.proofs.count_or_draw.Tie as tie
 
 -- the row test
 abbrev row-test : tie.Start → Bool
-row-test s = let a = s .args in stands (tables [] (a .bytes .now)) (a .blocks) (digits (a .blocks) (a .place))
+row-test s = let a = s .args in standsIn (a .bytes .now) (a .blocks) (a .place)
 
 element-copy-out-if1 : tie.Need-element-copy-out-if1
 element-copy-out-if1 c = search needs

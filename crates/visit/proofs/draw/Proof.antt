@@ -1,10 +1,8 @@
 -- Not wanted, or no row, or the best from there on.
 use mathlib.Core.Path.{sym, _∙_}
 use borrow.Author.Tests.{not-true, not-false}
-use mathlib.Core.List.{[]}
 use mathlib.Core.Bool.{Bool}
-use Rattle.packing.specs.Packing.{digits}
-use Rattle.visit.specs.Tables.{tables, stands}
+use Rattle.visit.specs.Tables.{standsIn}
 use Rattle.visit.proofs.Cases.{not-wanted, no-row, best-row}
 use borrow.Author.Needs.{needs}
 use Rattle.visit.proofs.draw.Statement.{statement}
@@ -12,7 +10,7 @@ use Rattle.visit.proofs.draw.Tie as tie
 
 -- the row test
 abbrev row-test : tie.Start → Bool
-row-test s = let a = s .args in stands (tables [] (a .bytes .now)) (a .blocks) (digits (a .blocks) (a .place))
+row-test s = let a = s .args in standsIn (a .bytes .now) (a .blocks) (a .place)
 
 is-wanted-requires : tie.Need-is-wanted-requires
 is-wanted-requires c κs = search needs

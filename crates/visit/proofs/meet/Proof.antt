@@ -2,11 +2,9 @@
 use native.Mathlib.Omega.{arith}
 use mathlib.Core.Path.{sym, _∙_}
 use mathlib.Core.Bool.{Bool}
-use mathlib.Core.List.{[]}
 use lib.ListN.{getD}
 use borrow.Author.Tests.{ne-eqb}
-use Rattle.packing.specs.Packing.{digits}
-use Rattle.visit.specs.Tables.{tables, stands}
+use Rattle.visit.specs.Tables.{standsIn}
 use Rattle.visit.specs.Visits.{countingAt, bestCostAt, bestPlaceAt}
 use Rattle.visit.proofs.Cases.{not-earlier, no-better, not-wanted, see-draws, none-kept}
 use borrow.Author.Needs.{needs}
@@ -15,7 +13,7 @@ use Rattle.visit.proofs.meet.Tie as tie
 
 -- the row test, which is not made
 abbrev row-test : tie.Start → Bool
-row-test s = let a = s .args in stands (tables [] (a .bytes .now)) (a .blocks) (digits (a .blocks) (a .place))
+row-test s = let a = s .args in standsIn (a .bytes .now) (a .blocks) (a .place)
 
 element-copy-out-if1 : tie.Need-element-copy-out-if1
 element-copy-out-if1 c = search needs
