@@ -2,13 +2,15 @@
 """The layer above cites what the layer below promises.
 
 Prints every place where a proof unfolds a definition of a crate below its own, and
-fails if there is one.  Computed examples are left out: they unfold what they compute.
+every crate that crates.txt lets another one know and that it does not use; fails if
+there is one.  Computed examples are left out: they unfold what they compute.
 """
 import pathlib
 import re
 import sys
 
-CRATES = pathlib.Path(__file__).resolve().parent.parent / "crates"
+ROOT = pathlib.Path(__file__).resolve().parent.parent
+CRATES = ROOT / "crates"
 DEFINED = re.compile(r"^ *unfoldable (?:pub )?([^\s:]+) *:", re.MULTILINE)
 USED = re.compile(r"^use Rattle·(\w+)(?:·\w+)?\.(?:specs|proofs)\.[^{}\n]*\.\{([^}]*)\}", re.MULTILINE)
 UNFOLDING = re.compile(r"^( *)unfolding\b(.*(?:\n\1 +\S.*)*)", re.MULTILINE)
@@ -40,8 +42,23 @@ def unfolded_below(path):
                 yield line, name, below
 
 
+def unused(line):
+    """The crates that a line of crates.txt names for a crate which uses nothing of them."""
+    crate, known = line.split(":")
+    texts = [path.read_text() for folder in ("src", "specs", "proofs")
+             for path in (CRATES / crate / folder).rglob("*") if path.suffix in (".rt", ".antt")]
+    for name in known.split():
+        use = re.compile(rf"Rattle.{name}\b|\b{name}::")
+        if not any(use.search(text) for text in texts):
+            yield crate, name
+
+
 def main():
     found = 0
+    for line in (ROOT / "crates.txt").read_text().splitlines():
+        for crate, name in [] if line.startswith("#") else unused(line):
+            found += 1
+            print(f"crates.txt: {crate} does not use {name}")
     for path in sorted(CRATES.rglob("*.antt")):
         if path.name in COMPUTED:
             continue
@@ -49,8 +66,8 @@ def main():
             found += 1
             print(f"{path.relative_to(CRATES)}:{line}: unfolds {name} of {below}")
     if found:
-        sys.exit(f"layers: {found} definitions are unfolded above their crates")
-    print("layers: no definition is unfolded above its crate")
+        sys.exit(f"layers: {found} places")
+    print("layers: no definition is unfolded above its crate, and no crate knows one it does not use")
 
 
 if __name__ == "__main__":
