@@ -16,7 +16,7 @@ use Rattle.description.specs.declared.workflow.Kind.the-variants.{Datum, Servic
 use Rattle.description.specs.Format.{Description, noCloud, noBlock, cloud, block, isDatum, isWrite}
 use Rattle.description.specs.Invariants.{InRange}
 use Rattle.security.specs.Placements.{serviceCloud, datumCloud}
-use Rattle.weights.specs.Weights.{first, second, termLimit}
+use Rattle.weights.specs.Weights.{firstPenalty, secondPenalty, termLimit}
 use Rattle.costs.specs.Cost.{chargedOf, storageOf, cpuOf}
 use Rattle.costs.specs.Terms.{blockTerm, edgeCharge, edgeExposes, penalty, edgeTerm, weightOf}
 use Rattle.costs.proofs.BlockCosts.{datum-computes-nothing}
@@ -74,6 +74,6 @@ module _ (d : Description) (r : InRange d) where
   pub edge-small : (e : Edge) (x y : ℕ) → edgeTerm d e x y < termLimit
   unfolding edgeTerm
   edge-small e x y =
-      let broken = cond-ind (λ (n : ℕ). n ≤ second) (edgeExposes d e x y) (penalty (e .way)) 0
-      (λ _. cond-ind (λ (n : ℕ). n ≤ second) (isWrite (e .way)) second first (λ _. omega arith) (λ _. omega arith)) (λ _. zero-le) in
+      let broken = cond-ind (λ (n : ℕ). n ≤ secondPenalty) (edgeExposes d e x y) (penalty (e .way)) 0
+      (λ _. cond-ind (λ (n : ℕ). n ≤ secondPenalty) (isWrite (e .way)) secondPenalty firstPenalty (λ _. omega arith) (λ _. omega arith)) (λ _. zero-le) in
       omega (arith, charge-small e x y, broken)

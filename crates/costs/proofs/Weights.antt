@@ -17,7 +17,7 @@ use Rattle.costs.specs.Cost.{storageOf, cpuOf, ofBlock, cost, edgeCost}
 use Rattle.security.specs.Placements.{serviceCloud, datumCloud, exposes, breaks16, breaks17, broken16, broken17, secure}
 use Rattle.security.proofs.Moves.{exposes-apart, read-breaks, write-breaks}
 use Rattle.costs.specs.Terms.{blockTerm, edgeExposes, penalty, edgeTerm, weightOf, classIn}
-use Rattle.weights.specs.Weights.{costLimit, radix, first, second, classOf}
+use Rattle.weights.specs.Weights.{costLimit, radix, firstPenalty, secondPenalty, classOf}
 use Rattle.weights.proofs.Classes.{class-light, class-first, class-second}
 use Rattle.costs.proofs.CostBound.{bounded-cost}
 use Rattle.costs.proofs.EdgeCosts.{edge-cost, cost-by-edges}
@@ -34,16 +34,16 @@ module _ (d : Description) (p : List ℕ) where
 
   penalty-is : (e : Edge)
       → cond (edgeExposes d e (serviceCloud p e) (datumCloud p e)) (penalty (e .way)) 0 ≡
-      cond (breaks16 d p e) first 0 + cond (breaks17 d p e) second 0
+      cond (breaks16 d p e) firstPenalty 0 + cond (breaks17 d p e) secondPenalty 0
   penalty-is e = rw (← exposes-apart d p e) (go (isWrite (e .way)) refl)
     where
       go : (write : Bool) → isWrite (e .way) ≡ write
-          → cond (exposes d p e) (cond write second first) 0 ≡ cond (breaks16 d p e) first 0 + cond (breaks17 d p e) second 0
+          → cond (exposes d p e) (cond write secondPenalty firstPenalty) 0 ≡ cond (breaks16 d p e) firstPenalty 0 + cond (breaks17 d p e) secondPenalty 0
       go true w = let (never, breaks) = write-breaks d p e w in rw (never, breaks) (omega arith)
       go false w = let (breaks, never) = read-breaks d p e w in rw (breaks, never) (omega arith)
 
   term-is : (e : Edge)
-      → edgeTerm d e (serviceCloud p e) (datumCloud p e) ≡ edgeCost d p e + (cond (breaks16 d p e) first 0 + cond (breaks17 d p e) second 0)
+      → edgeTerm d e (serviceCloud p e) (datumCloud p e) ≡ edgeCost d p e + (cond (breaks16 d p e) firstPenalty 0 + cond (breaks17 d p e) secondPenalty 0)
   unfolding edgeTerm
   term-is e = ap₂ _+_ (sym (edge-cost d p e)) (penalty-is e)
 
@@ -54,11 +54,11 @@ module _ (d : Description) (p : List ℕ) where
   edges-sum =
       let s =
       sum-same (λ e. edgeTerm d e (serviceCloud p e) (datumCloud p e))
-      (λ e. edgeCost d p e + (cond (breaks16 d p e) first 0 + cond (breaks17 d p e) second 0)) term-is (d .edges) in
-      let a = sum-both (edgeCost d p) (λ e. cond (breaks16 d p e) first 0 + cond (breaks17 d p e) second 0) (d .edges) in
-      let b = sum-both (λ e. cond (breaks16 d p e) first 0) (λ e. cond (breaks17 d p e) second 0) (d .edges) in
-      let r = sum-passing first (breaks16 d p) (d .edges) in
-      let w = sum-passing second (breaks17 d p) (d .edges) in
+      (λ e. edgeCost d p e + (cond (breaks16 d p e) firstPenalty 0 + cond (breaks17 d p e) secondPenalty 0)) term-is (d .edges) in
+      let a = sum-both (edgeCost d p) (λ e. cond (breaks16 d p e) firstPenalty 0 + cond (breaks17 d p e) secondPenalty 0) (d .edges) in
+      let b = sum-both (λ e. cond (breaks16 d p e) firstPenalty 0) (λ e. cond (breaks17 d p e) secondPenalty 0) (d .edges) in
+      let r = sum-passing firstPenalty (breaks16 d p) (d .edges) in
+      let w = sum-passing secondPenalty (breaks17 d p) (d .edges) in
       omega arith
 
   -- The weight is the cost, with 2^53 for each edge that breaks rule 16 and 33 times that for each that breaks rule 17.

@@ -11,7 +11,7 @@ use Rattle.description.specs.declared.workflow.Edge.{Edge}
 use Rattle.description.specs.declared.workflow.Way.{Way}
 use Rattle.description.specs.Format.{Description, cloud, block, isWrite}
 use Rattle.security.specs.Soundness.{covers, cloudLevel, blockLevel}
-use Rattle.weights.specs.Weights.{first, second}
+use Rattle.weights.specs.Weights.{firstPenalty, secondPenalty}
 use Rattle.security.specs.Placements.{serviceCloud, datumCloud, broken16, broken17}
 use Rattle.costs.specs.Cost.{chargedOf, storageOf, cpuOf}
 use Rattle.sequences.specs.Lists.{below, sum}
@@ -32,7 +32,7 @@ edgeExposes d e x y = not (eqb x y) && not (covers (cloudLevel d x) (blockLevel 
 
 -- what an edge adds where it exposes its copy: rule 16, of a read, is looked for before rule 17, of a write
 abbrev pub penalty : Way → ℕ
-penalty way = cond (isWrite way) second first
+penalty way = cond (isWrite way) secondPenalty firstPenalty
 
 -- the charge, with the penalty of what it breaks
 unfoldable pub edgeTerm : Description → Edge → (x y : ℕ) → ℕ

@@ -2,7 +2,7 @@
 ghost use mathlib.Core.Path.{_≡_};
 ghost use mathlib.Core.Bool.{cond};
 ghost use Prim.Native.Nat.{_^_, _≤_, _<_};
-ghost use Rattle.weights.specs.Weights.{second, termLimit};
+ghost use Rattle.weights.specs.Weights.{secondPenalty, termLimit};
 ghost use Rattle.description.specs.Meaning.{describes};
 ghost use Rattle.costs.specs.Terms.{blockTerm, penalty, serviceSide, datumSide};
 ghost use Rattle.security.specs.Soundness.{covers};
@@ -17,8 +17,8 @@ use description::workflow::Way;
 use description::workflow::block_at;
 use description::workflow::cloud_at;
 use security::soundness::covers;
-use weights::FIRST;
-use weights::SECOND;
+use weights::FIRST_PENALTY;
+use weights::SECOND_PENALTY;
 
 // What block b is charged on cloud k.
 pub fn block_term(w: &Words, b: usize, k: usize) -> u64
@@ -34,15 +34,15 @@ pub fn block_term(w: &Words, b: usize, k: usize) -> u64
 // What an exposed copy adds to the service's end of its edge.
 fn exposed(way: Way, cloud: Cloud, datum: Block) -> u64
     ensures { λ r. ⌜ r ≡ cond (covers (cloud .level) (datum .level)) 0 (penalty way) ⌝ }
-    ensures { λ r. ⌜ r ≤ second ⌝ }
+    ensures { λ r. ⌜ r ≤ secondPenalty ⌝ }
 {
     if covers(cloud.level, datum.level) {
         return 0;
     }
     if is_write(way) {
-        return SECOND;
+        return SECOND_PENALTY;
     }
-    FIRST
+    FIRST_PENALTY
 }
 
 // What a gigabyte costs at one end: out of its cloud, or into it.

@@ -8,4 +8,3 @@ pub mod Refusals
 pub mod SecureEdges
 pub mod Sound
 pub mod Standing
-pub mod Undeclared

@@ -13,7 +13,7 @@ use Rattle.description.specs.Format.{Description, namesBlock}
 use Rattle.description.specs.declared.workflow.Way.the-variants.{Reads, Writes}
 use Rattle.description.specs.Invariants.{WellFormed}
 use Rattle.security.specs.Soundness.{mayStand}
-use Rattle.security.proofs.Undeclared.{no-cloud}
+use Rattle.security.proofs.Choices.{no-cloud}
 use Rattle.costs.specs.Terms.{blockTerm}
 use Rattle.costs.proofs.Charges.{datum-charge}
 use Rattle.options.specs.Representatives.{exchanges, storedOn}

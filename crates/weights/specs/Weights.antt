@@ -1,5 +1,5 @@
--- A weight is one number for a placement that tells its cost and what it breaks: the cost, with `first` for each edge that breaks the rule
--- that is looked for first, and `second` for each that breaks the other. A cost is below 2^53 and there are at most 32 edges, so that
+-- A weight is one number for a placement that tells its cost and what it breaks: the cost, with `firstPenalty` for each edge that breaks the rule
+-- that is looked for first, and `secondPenalty` for each that breaks the other. A cost is below 2^53 and there are at most 32 edges, so that
 -- neither the cost nor the first kind ever carries over.
 use Prim.Native.Nat.{ℕ, _+_, _*_, _/_, _%_, _^_}
 use mathlib.Core.Bool.{Bool, cond}
@@ -13,11 +13,11 @@ costLimit = 2 ^ 53
 abbrev pub radix : ℕ
 radix = 33
 
-abbrev pub first : ℕ
-first = costLimit
+abbrev pub firstPenalty : ℕ
+firstPenalty = costLimit
 
-abbrev pub second : ℕ
-second = radix * costLimit
+abbrev pub secondPenalty : ℕ
+secondPenalty = radix * costLimit
 
 -- what one edge adds is below it: one penalty, and a charge below 2^53
 abbrev pub termLimit : ℕ

@@ -10,9 +10,9 @@ pub const COST_LIMIT: u64 = 9007199254740992;
 pub const RADIX: u64 = 33;
 
 // What an edge adds that breaks the rule that is looked for first, and what one adds that breaks the other: 33 times 2^53.
-pub const FIRST: u64 = COST_LIMIT;
+pub const FIRST_PENALTY: u64 = COST_LIMIT;
 
-pub const SECOND: u64 = 297237575406452736;
+pub const SECOND_PENALTY: u64 = 297237575406452736;
 
 // The classes of placements. There is room for one more, and then the number of classes.
 pub const SECURE: usize = 0;

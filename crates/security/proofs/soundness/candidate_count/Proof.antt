@@ -13,7 +13,7 @@ use Rattle.sequences.specs.Lists.{product}
 use Rattle.sequences.proofs.Counting.{getD-below}
 use Rattle.sequences.proofs.Loops.{product-next, product-stops}
 use Rattle.security.specs.Soundness.{positions, choicesOf, count}
-use Rattle.security.proofs.Undeclared.{one-choice}
+use Rattle.security.proofs.Choices.{one-choice}
 use Rattle.security.proofs.soundness.candidate_count.Statement.{statement}
 use Rattle.security.proofs.soundness.candidate_count.Tie as tie
 

@@ -11,7 +11,7 @@ use Rattle.sequences.specs.Lists.{keep, below}
 use Rattle.sequences.proofs.Counting.{getD-below}
 use Rattle.sequences.proofs.Loops.{keep-hit, keep-miss, keep-stops, told}
 use Rattle.security.specs.Soundness.{mayStand, choicesOf}
-use Rattle.security.proofs.Undeclared.{no-cloud}
+use Rattle.security.proofs.Choices.{no-cloud}
 use Rattle.security.proofs.soundness.choice_count.Statement.{statement}
 use Rattle.security.proofs.soundness.choice_count.Tie as tie
 

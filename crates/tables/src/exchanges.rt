@@ -1,0 +1,189 @@
+// The data between one writer and one reader, and on which cloud each would do better.
+ghost use mathlib.Core.Path.{_≡_};
+ghost use mathlib.Core.Bool.{cond};
+ghost use mathlib.Core.List.{_++_};
+ghost use Prim.Native.Nat.{_+_, _*_, _<_, _≤_};
+ghost use lib.Dec.{eqb};
+ghost use lib.ListN.{take, drop, replicate};
+ghost use Rattle.description.specs.Format.{sameWay};
+ghost use Rattle.description.specs.Invariants.{WellFormed};
+ghost use Rattle.description.specs.Meaning.{describes};
+ghost use Rattle.tables.specs.Building.{table, tableTo, edgesOf, noService, noted, onlyIn, pairBy, pairsOf};
+ghost use Rattle.tables.specs.Building.{bits, betterBy, mayExchange, exchangesBy};
+ghost use Rattle.visit.specs.Tables.{exchangesFrom};
+use crate::blocks::with_bit;
+use description::decode::is_write;
+use description::words::MOST_BLOCKS;
+use description::words::MOST_CLOUDS;
+use description::words::Words;
+use description::workflow::Edge;
+use description::workflow::Way;
+use description::workflow::block_count;
+use description::workflow::edge_at;
+use description::workflow::edge_count;
+use sequences::wide;
+use visit::tables::EXCHANGES;
+use visit::tables::MASKS;
+use visit::tables::PAIRS;
+use visit::tables::TableBytes;
+use visit::tables::TableWords;
+
+// Stands for a service that is not there, or is not the only one.
+const NO_SERVICE: u8 = 255;
+
+// The edge reads, or writes, as asked.
+fn goes(way: Way, e: Edge) -> bool
+    ensures { λ r. ⌜ r ≡ sameWay way (e .way) ⌝ }
+{
+    let other = e.way;
+    if is_write(way) {
+        return is_write(other);
+    }
+    !is_write(other)
+}
+
+// How one more service of a datum is noted.
+fn note(before: u8, service: u8) -> u8
+    requires { ⌜ service < 254 ⌝ }
+    ensures { λ r. ⌜ r ≡ cond (eqb before 0) (service + 1) noService ⌝ }
+{
+    if before == 0 {
+        return service + 1;
+    }
+    NO_SERVICE
+}
+
+// For each datum, the services that read, or write, it: 0 for none, NO_SERVICE for more than one, otherwise the service and 1.
+fn note_services(w: &Words, way: Way, a: &mut [u8; MOST_BLOCKS])
+    requires { ⌜ WellFormed (describes (now w)) ⌝ }
+    requires { ⌜ now a ≡ replicate 16 0 ⌝ }
+    ensures { λ _. ⌜ now (a .exit) ≡ table 16 (λ m. noted (edgesOf (describes (now (w .entry))) way m)) ⌝ }
+{
+    let n = edge_count(w);
+    let mut i = 0;
+    while i < n {
+        let e = edge_at(w, i);
+        if goes(way, e) {
+            let m = wide(e.datum);
+            a[m] = note(a[m], e.service);
+        }
+        i += 1;
+    }
+}
+
+// The only service that is noted; NO_SERVICE where there is none or there are more.
+fn only_in(n: u8) -> u8
+    ensures { λ r. ⌜ r ≡ onlyIn n ⌝ }
+{
+    if n == 0 {
+        return NO_SERVICE;
+    }
+    if n == NO_SERVICE {
+        return NO_SERVICE;
+    }
+    n - 1
+}
+
+// The writer of datum i / 2, and its reader; NO_SERVICE where one of the two is.
+fn pair_at(writers: &[u8; MOST_BLOCKS], readers: &[u8; MOST_BLOCKS], i: usize) -> u8
+    requires { ⌜ i < 32 ⌝ }
+    ensures { λ r. ⌜ r ≡ pairBy (now (writers .entry)) (now (readers .entry)) i ⌝ }
+{
+    let writer = only_in(writers[i / 2]);
+    let reader = only_in(readers[i / 2]);
+    if writer == NO_SERVICE {
+        return NO_SERVICE;
+    }
+    if reader == NO_SERVICE {
+        return NO_SERVICE;
+    }
+    if i % 2 == 0 {
+        return writer;
+    }
+    reader
+}
+
+fn pair_up(writers: &[u8; MOST_BLOCKS], readers: &[u8; MOST_BLOCKS], blocks: usize, a: &mut [u8])
+    requires { ⌜ blocks ≤ 16 ⌝ }
+    requires { ⌜ now a ≡ replicate 32 0 ⌝ }
+    ensures { λ _. ⌜ now (a .exit) ≡ tableTo 32 (2 * blocks) (pairBy (now (writers .entry)) (now (readers .entry))) ⌝ }
+{
+    let last = 2 * blocks;
+    let mut i = 0;
+    while i < last {
+        a[i] = pair_at(writers, readers, i);
+        i += 1;
+    }
+}
+
+pub fn fill_pairs(w: &Words, a: &mut [u8])
+    requires { ⌜ WellFormed (describes (now w)) ⌝ }
+    requires { ⌜ now a ≡ replicate 32 0 ⌝ }
+    ensures { λ _. ⌜ now (a .exit) ≡ pairsOf (describes (now (w .entry))) ⌝ }
+{
+    let mut writers: [u8; MOST_BLOCKS] = [0; MOST_BLOCKS];
+    let mut readers: [u8; MOST_BLOCKS] = [0; MOST_BLOCKS];
+    note_services(w, Way::Writes, &mut writers);
+    note_services(w, Way::Reads, &mut readers);
+    pair_up(&writers, &readers, block_count(w), a);
+}
+
+// Block m, which stands on `here`, may stand on `there` by its mask, and costs less there, or as much and `there` is the lower cloud.
+fn is_better(words: &TableWords, mask: u8, m: usize, here: usize, there: usize) -> bool
+    requires { ⌜ (m < 16) × (here < 8) × (there < 8) ⌝ }
+    ensures { λ r. ⌜ r ≡ betterBy (now (words .entry)) mask m here there ⌝ }
+{
+    if (wide(mask) >> there) % 2 == 0 {
+        return false;
+    }
+    let new = words[m * MOST_CLOUDS + there];
+    let old = words[m * MOST_CLOUDS + here];
+    if new == old {
+        return there < here;
+    }
+    new < old
+}
+
+// The clouds on which it would do better, from the highest bit down.
+fn better_bits(words: &TableWords, mask: u8, clouds: usize, m: usize, here: usize) -> u8
+    requires { ⌜ (clouds ≤ 8) × (m < 16) × (here < 8) ⌝ }
+    ensures { λ r. ⌜ r ≡ bits (betterBy (now (words .entry)) mask m here) 0 clouds ⌝ }
+{
+    let mut better: u8 = 0;
+    let mut i = 0;
+    while i < clouds {
+        better = with_bit(better, is_better(words, mask, m, here, clouds - 1 - i));
+        i += 1;
+    }
+    better
+}
+
+// Entry i has a declared cloud, and a block with one writer and one reader.
+fn has_exchange(bytes: &TableBytes, clouds: usize, i: usize) -> bool
+    requires { ⌜ i < 128 ⌝ }
+    ensures { λ r. ⌜ r ≡ mayExchange (now (bytes .entry)) clouds i ⌝ }
+{
+    if i % MOST_CLOUDS < clouds {
+        return wide(bytes[PAIRS + 2 * (i / MOST_CLOUDS)]) < MOST_BLOCKS;
+    }
+    false
+}
+
+// Where datum i / 8, on cloud i % 8, would do better, by the other tables: what it is charged there is its storage.
+pub fn fill_exchanges(words: &TableWords, bytes: &mut TableBytes, blocks: usize, clouds: usize)
+    requires { ⌜ (blocks ≤ 16) × (clouds ≤ 8) ⌝ }
+    requires { ⌜ drop exchangesFrom (now bytes) ≡ replicate 128 0 ⌝ }
+    ensures { λ _. ⌜ now (bytes .exit) ≡ take exchangesFrom (now (bytes .entry)) ++ exchangesBy (now (words .entry)) (now (bytes .entry)) blocks clouds ⌝ }
+{
+    let last = blocks * MOST_CLOUDS;
+    let mut i = 0;
+    while i < last {
+        if has_exchange(bytes, clouds, i) {
+            let m = i / MOST_CLOUDS;
+            bytes[EXCHANGES + i] = better_bits(words, bytes[MASKS + m], clouds, m, i % MOST_CLOUDS);
+            i += 1;
+        } else {
+            i += MOST_CLOUDS - i % MOST_CLOUDS;
+        }
+    }
+}
