@@ -6,14 +6,15 @@
 
 /* A longer description is refused within its first bytes, so what does not fit need not be read. */
 static uint8_t description[4096];
-static uint64_t rows[PANEL_LIST], scratch[PANEL_LIST];
+static uint64_t rows[PANEL_LIST], scratch[PANEL_SCRATCH];
 
-static void print_row(uint64_t cost, uint64_t packed, uint64_t blocks)
+/* The words of a row are its cost, its clouds as digits to the base 8, and its storage, transfer and cpu. */
+static void print_row(const uint64_t row[PANEL_ROW], uint64_t blocks)
 {
-    printf("%" PRIu64 " ", cost);
+    printf("%" PRIu64 " ", row[0]);
     for (uint64_t block = blocks; block > 0; block--)
-        putchar('0' + (int)(packed >> (3 * (block - 1)) & 7));
-    putchar('\n');
+        putchar('0' + (int)(row[1] >> (3 * (block - 1)) & 7));
+    printf(" %" PRIu64 " %" PRIu64 " %" PRIu64 "\n", row[2], row[3], row[4]);
 }
 
 int main(void)
@@ -24,12 +25,12 @@ int main(void)
         return 1;
     }
     uint64_t extent[2];
-    uint64_t status = panel_list(description, length, rows, PANEL_LIST, scratch, PANEL_LIST, extent);
+    uint64_t status = panel_list(description, length, rows, PANEL_LIST, scratch, PANEL_SCRATCH, extent);
     if (status != 0) {
         printf("refused %u %" PRIu64 "\n", PANEL_NUMBER(status), PANEL_PLACE(status));
     } else {
         for (uint64_t row = 0; row < extent[0]; row++)
-            print_row(rows[2 * row], rows[2 * row + 1], extent[1]);
+            print_row(&rows[PANEL_ROW * row], extent[1]);
         printf("options %" PRIu64 "\n", extent[0]);
     }
     if (fflush(stdout) != 0 || ferror(stdout)) {

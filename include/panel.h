@@ -5,7 +5,7 @@
  * A description is any bytes with their length. Nothing has to hold of them: what is wrong comes back as a refusal.
  *
  * Status. Every call answers 0, or a refusal as one word: its number in the low 8 bits (PANEL_NUMBER), its place in the other 56
- * (PANEL_PLACE). Every place fits: none is above 131072.
+ * (PANEL_PLACE). Every place fits: none is above 327680.
  *
  *   number   what is wrong                                                          place
  *     1      the input stops within a command, or before the end command            offset of that command, or the length
@@ -23,7 +23,7 @@
  *    13      the placement is no candidate (panel_judge, panel_transfers)           position of the byte
  *    14      rule 16: a read copies a datum to too low a cloud (the same two)       edge
  *    15      rule 17: a write does (the same two)                                   edge
- *    16      too little room (panel_transfers, panel_list)                          bytes, or words, that are needed
+ *    16      too little room (panel_transfers, panel_list)                          bytes, or words of rows, that are needed
  *
  * Lent memory. A call reads and writes what it is lent and nothing else, and keeps no pointer. Where it answers 0 the arrays below are
  * written as each call says; after any refusal every lent byte is as it was. Pointers are not null, even with a length of 0, and words
@@ -37,10 +37,10 @@
  * Example: all rows, the cheapest first, one draw at a time (examples/list.c lists them with one call).
  *
  *     uint8_t past[PANEL_BLOCKS] = {0}, row[PANEL_BLOCKS];
- *     uint64_t answer[2];
+ *     uint64_t answer[5];
  *     uint64_t status = panel_draw(bytes, length, true, 0, past, answer, row);
  *     while (status == 0 && answer[0] == 1) {
- *         show(answer[1], row);
+ *         show(answer[1], row, answer[2], answer[3], answer[4]);
  *         memcpy(past, row, sizeof past);
  *         status = panel_draw(bytes, length, false, answer[1], past, answer, row);
  *     }
@@ -54,10 +54,12 @@
 #include <stddef.h>
 #include <stdint.h>
 
-#define PANEL_BLOCKS 16     /* bytes of a placement: the cloud of each block, and 0 where there is no block */
-#define PANEL_TRANSFERS 128 /* bytes that hold the transfers of any placement */
-#define PANEL_LIST 131072   /* words that hold the rows of any description; the scratch needs as many */
-#define PANEL_STACK 32768   /* bytes of stack that are enough for any call: the deepest, panel_draw, takes some 23,000 */
+#define PANEL_BLOCKS 16      /* bytes of a placement: the cloud of each block, and 0 where there is no block */
+#define PANEL_TRANSFERS 128  /* bytes that hold the transfers of any placement */
+#define PANEL_ROW 5          /* words of a row in a list */
+#define PANEL_LIST 327680    /* words that hold the rows of any description */
+#define PANEL_SCRATCH 131072 /* words of scratch that are enough for any description */
+#define PANEL_STACK 32768    /* bytes of stack that are enough for any call: the deepest, panel_draw, takes some 23,000 */
 
 #define PANEL_NUMBER(status) ((unsigned)((status) & 255))
 #define PANEL_PLACE(status) ((uint64_t)(status) >> 8)
@@ -95,17 +97,18 @@ uint64_t panel_census(const uint8_t *description, size_t length, uint64_t figure
 /*
  * Draw: the first row from the start, where start is true (cost and placement are not looked at, but placement is still sixteen readable
  * bytes); else the first row that comes after cost and placement, which need not be a row. Refuses with 1 to 12.
- * answer: 1 and the row's cost; 0 and 0 where there is no row left.
+ * answer: 1 and the row's cost, storage, transfer and cpu, the last three of which make up the cost; zeros where there is no row left.
  * row: the row's placement; zeros where there is none.
  */
 uint64_t panel_draw(const uint8_t *description, size_t length, bool start, uint64_t cost, const uint8_t placement[16],
-                    uint64_t answer[2], uint8_t row[16]);
+                    uint64_t answer[5], uint8_t row[16]);
 
 /*
- * List: all rows at once, the cheapest first. Refuses with 1 to 12, and with 16 where rows or scratch is shorter than two words a row.
- * rows: two words for each row at the front: its cost, and the clouds of its blocks as digits to the base 8, the first block's the
- *       highest; the words behind them stay. room is its length in words.
- * scratch: room to sort with, as much as the rows need; that much is zeros afterwards, and the words behind it stay. scratch_room is its
+ * List: all rows at once, the cheapest first. Refuses with 1 to 12, and with 16 where rows is shorter than five words a row or scratch
+ * than two; the place is the words that rows needs, and scratch needs two fifths of them.
+ * rows: PANEL_ROW words for each row at the front: its cost; the clouds of its blocks as digits to the base 8, the first block's the
+ *       highest; its storage, transfer and cpu. The words behind them stay. room is its length in words.
+ * scratch: room to sort with, two words for each row; that much is zeros afterwards, and the words behind it stay. scratch_room is its
  *          length in words.
  * extent: rows, blocks.
  */

@@ -332,18 +332,25 @@ def gigabytes(size):
     return (size + 9) // 10
 
 
-def cost(described, placement):
-    total = 0
+class Amounts(NamedTuple):
+    """The parts of a placement's cost, which is their sum."""
+    storage: int
+    transfer: int
+    cpu: int
+
+
+def amounts_of(described, placement):
+    storage = transfer = cpu = 0
     for b, block in enumerate(described.blocks):
         cloud = described.clouds[placement[b]]
         if isinstance(block, Datum):
-            total += cloud.storage_rate * gigabytes(block.size) * block.longevity
+            storage += cloud.storage_rate * gigabytes(block.size) * block.longevity
         else:
-            total += cloud.cpu_rate * block.cpu_units
+            cpu += cloud.cpu_rate * block.cpu_units
     for _, datum, source, destination in moves(described, placement):
         rate = described.clouds[source].out_rate + described.clouds[destination].in_rate
-        total += rate * gigabytes(described.blocks[datum].size)
-    return total
+        transfer += rate * gigabytes(described.blocks[datum].size)
+    return Amounts(storage, transfer, cpu)
 
 
 # ---- Options and rows -----------------------------------------------------------------
@@ -377,15 +384,35 @@ def is_secure(described, candidate):
             and first_broken(described, candidate, WRITES) is None)
 
 
+class Row(NamedTuple):
+    cost: int
+    placement: bytes
+    amounts: Amounts
+
+    def cursor(self):
+        """What rows are ordered by, and where a draw goes on: amounts play no part in it."""
+        return self.cost, self.placement
+
+    def shown(self, blocks):
+        """The row with the clouds of so many blocks, as the programs print it."""
+        words = (self.cost, digits(self.placement[:blocks]), *self.amounts)
+        return " ".join(map(str, words))
+
+
+def row_at(described, placement):
+    amounts = amounts_of(described, placement)
+    return Row(sum(amounts), placement, amounts)
+
+
 def rows_of(described):
-    """The rows as (cost, placement), in the order in which they are drawn."""
+    """The rows in the order in which they are drawn."""
     option = option_of(described)
     groups = {}
     for placement in candidates(described):
         if is_secure(described, placement):
-            row = (cost(described, placement), placement)
+            row = row_at(described, placement)
             groups.setdefault(option(placement), []).append(row)
-    return sorted(min(group) for group in groups.values())
+    return sorted((min(group, key=Row.cursor) for group in groups.values()), key=Row.cursor)
 
 
 # ---- The calls ------------------------------------------------------------------------
@@ -438,7 +465,7 @@ def rows(text):
 def draw(text, cursor):
     """The first row later than the cursor, or None; the cursor None is the start."""
     found = rows(text)
-    passed = 0 if cursor is None else bisect.bisect_right(found, cursor)
+    passed = 0 if cursor is None else bisect.bisect_right(found, cursor, key=Row.cursor)
     return found[passed] if passed < len(found) else None
 
 
@@ -461,8 +488,7 @@ def listing(text):
     except Refused as refusal:
         return [str(refusal)]
     blocks = len(read(text).blocks)
-    lines = [f"{price} {digits(placement[:blocks])}" for price, placement in found]
-    return lines + [f"options {len(found)}"]
+    return [row.shown(blocks) for row in found] + [f"options {len(found)}"]
 
 
 def digits(placement):
@@ -521,8 +547,11 @@ def answer_draw(text, tape):
     kind, price, placement = tape.number(1), tape.number(8), tape.take(16)
     if kind > 1:
         raise BadCase
-    row = draw(text, (price, placement) if kind == 1 else None)
-    return "finished" if row is None else f"row {row[0]} {digits(row[1])}"
+    return row_line(draw(text, (price, placement) if kind == 1 else None))
+
+
+def row_line(row):
+    return "finished" if row is None else f"row {row.shown(MOST_BLOCKS)}"
 
 
 def answer_transfers(text, tape):
@@ -1522,23 +1551,36 @@ GRID = EIGHT_CLOUDS + datum() * 2                          # 64 rows that cost n
 # Six services whose cpu units are powers of two: every cost from 0 to 63, once.
 POWERS = cloud() + cloud(cpu=1) + b"".join(service(units=1 << bit) for bit in range(6))
 HIGH_DATUM = cloud(0) + cloud(1) + datum(1) + service(0, 1)
+PRICED = cloud(0, 2, 3, 5, 7) + cloud(0, 11, 13, 17, 19) + datum(0, 15, 3) + service(units=5)
+DEAREST = cloud(0, 65535, 65535, 65535, 65535)
 
 
 class Known(NamedTuple):
-    """A description with its census and its rows, both worked out by hand."""
+    """A description with its census and its rows, both worked out by hand.
+
+    A row is a cost, a digit for each block, and its storage, transfer and cpu; without
+    these three, all of the cost is for storage.
+    """
     text: bytes
     counts: tuple
-    rows: str                   # each a cost, a space and a digit for each block
+    rows: str
 
     def found(self):
-        split_rows = [line.split() for line in self.rows.split(", ") if line]
-        return [(int(price), placed(*map(int, clouds))) for price, clouds in split_rows]
+        return [known_row(*shown.split()) for shown in self.rows.split(", ") if shown]
+
+
+def known_row(price, clouds, *amounts):
+    parts = Amounts(*map(int, amounts or (price, 0, 0)))
+    return Row(int(price), placed(*map(int, clouds)), parts)
 
 
 KNOWN = [Known(begin + STOP, counts, found) for begin, counts, found in (
     (M[:-1], (16, 8, 0, 8, 6),
-     "2820 11111, 2840 11110, 2920 11000, 2940 11001, 3020 11011, 3040 11010"),
-    (SECOND[:-1], (16, 8, 4, 4, 3), "6300 1111110011, 6600 1111111011, 6800 1111111111"),
+     "2820 11111 1320 0 1500, 2840 11110 1320 20 1500, 2920 11000 1320 100 1500, "
+     "2940 11001 1320 120 1500, 3020 11011 1320 200 1500, 3040 11010 1320 220 1500"),
+    (SECOND[:-1], (16, 8, 4, 4, 3),
+     "6300 1111110011 3900 50 2350, 6600 1111111011 3900 100 2600, "
+     "6800 1111111111 4200 0 2600"),
     # The cheaper home stands for the option; of two that cost the same, the earlier bytes.
     (stores(1, 2) + pipe(), (8, 0, 0, 8, 6), "1 000, 1 001, 1 100, 1 101, 2 010, 2 111"),
     (stores(2, 1) + pipe(), (8, 0, 0, 8, 6), "1 010, 1 011, 1 110, 1 111, 2 000, 2 101"),
@@ -1560,8 +1602,8 @@ KNOWN = [Known(begin + STOP, counts, found) for begin, counts, found in (
     (stores(1, 2) + pipe() + APART + pin(1, 1), (1, 0, 0, 1, 1), "2 011"),
     (stores(2, 1) + pipe() + APART + pin(1, 0), (1, 0, 0, 1, 1), "2 001"),
     # Two readers: each has a copy of its own, so nothing merges.
-    (ONE_WAY + FORK + pin(2, 1) + pin(3, 1), (2, 0, 0, 2, 2), "9 0111, 15 0011"),
-    (ONE_WAY + FORK + pin(2, 0) + pin(3, 1), (2, 0, 0, 2, 2), "8 0001, 9 0101"),
+    (ONE_WAY + FORK + pin(2, 1) + pin(3, 1), (2, 0, 0, 2, 2), "9 0111 2 7 0, 15 0011 1 14 0"),
+    (ONE_WAY + FORK + pin(2, 0) + pin(3, 1), (2, 0, 0, 2, 2), "8 0001 1 7 0, 9 0101 2 7 0"),
     (stores(1, 1, 1) + FORK + pin(2, 1) + pin(3, 2), (3, 0, 0, 3, 3), "1 0012, 1 0112, 1 0212"),
     # Where the writer is the reader, or one of the two is missing, nothing merges either.
     (stores(1, 1) + service() + datum(0, 10, 1) + writes(0, 1) + reads(0, 1), (4, 0, 0, 4, 4),
@@ -1586,10 +1628,29 @@ KNOWN = [Known(begin + STOP, counts, found) for begin, counts, found in (
     (cloud() + datum(), (1, 0, 0, 1, 1), "0 0"),
     (cloud(0, 1) + datum(0, 11, 1), (1, 0, 0, 1, 1), "2 0"),
     (cloud(cpu=65535) + service(units=0xFFFFFFFF) * 16, (1, 0, 0, 1, 1),
-     "4503530906845200 0000000000000000"),
+     "4503530906845200 0000000000000000 0 0 4503530906845200"),
     (GRID, (64, 0, 0, 64, 64), ", ".join(f"0 {a}{b}" for a in range(8) for b in range(8))),
     (POWERS, (64, 0, 0, 64, 64),
-     ", ".join(f"{n} {format(n, '06b')[::-1]}" for n in range(64))),
+     ", ".join(f"{n} {format(n, '06b')[::-1]} 0 0 {n}" for n in range(64))),
+    # Every rate another, so that an amount tells which rates it is made of.
+    (PRICED, (4, 0, 0, 4, 4), "47 00 12 0 35, 101 10 66 0 35, 107 01 12 0 95, 161 11 66 0 95"),
+    (PRICED + reads(1, 0), (4, 0, 0, 4, 4),
+     "47 00 12 0 35, 141 10 66 40 35, 143 01 12 36 95, 161 11 66 0 95"),
+    (PRICED + writes(1, 0), (4, 0, 0, 4, 4),
+     "47 00 12 0 35, 137 10 66 36 35, 147 01 12 40 95, 161 11 66 0 95"),
+    (PRICED + writes(1, 0) + reads(1, 0), (4, 0, 0, 4, 4),
+     "47 00 12 0 35, 161 11 66 0 95, 177 10 66 76 35, 183 01 12 76 95"),
+    # Rows of one cost with other amounts, and transfers that are all there is to pay.
+    (cloud(0, 1, cpu=2) + cloud(0, 2, cpu=1) + datum(0, 10, 1) + service(units=1),
+     (4, 0, 0, 4, 4), "2 01 1 0 1, 3 00 1 0 2, 3 11 2 0 1, 4 10 2 0 2"),
+    (cloud(0, 0, 1, 2) + cloud(0, 0, 3, 4) + datum(0, 10, 9) + service() + reads(1, 0),
+     (4, 0, 0, 4, 4), "0 00, 0 11, 5 01 0 5 0, 5 10 0 5 0"),
+    # The highest amounts: of storage, and of transfers beside the other two.
+    (cloud(0, 65535) + datum(0, 65535, 65535) * 16, (1, 0, 0, 1, 1),
+     "450373705898400 0000000000000000"),
+    (DEAREST * 2 + datum(0, 65535, 65535) * 8 + service(units=0xFFFFFFFF) * 8 + ALL_READ
+     + b"".join(pin(block, block // 8) for block in range(16)), (1, 0, 0, 1, 1),
+     "2476979795420760 0000000011111111 225186852949200 27489048960 2251765453422600"),
 )]
 
 
@@ -1793,40 +1854,38 @@ FULL = bytes([255] * 16)
 ABOVE_CLOUDS = (8, 16, 64, 255)                            # bytes that no placement has
 
 
-def row_line(row):
-    return "finished" if row is None else f"row {row[0]} {digits(row[1])}"
-
-
 def chain(text, found):
     """Draws from the start to the last row and three beyond it, each from the last row."""
     cursor = None
     for row in found + [None] * 3:
         yield draw_case(text, cursor, row_line(row), again=row is None)
-        cursor = cursor if row is None else row
+        cursor = cursor if row is None else row.cursor()
 
 
 def replaced(placement, position, value):
     return placement[:position] + bytes([value]) + placement[position + 1:]
 
 
-def one_byte_off(row, positions):
-    price, placement = row
+# Cursors near one cursor, which is mostly at a row.
+
+def one_byte_off(cursor, positions):
+    price, placement = cursor
     for position in positions:
         for value in (placement[position] - 1, placement[position] + 1):
             if 0 <= value <= 255:
                 yield price, replaced(placement, position, value)
 
 
-def one_byte_high(row, positions):
+def one_byte_high(cursor, positions):
     """A byte above every cloud, among them one that is the row's own but for high bits."""
-    price, placement = row
+    price, placement = cursor
     for position in positions:
         for value in (*ABOVE_CLOUDS, placement[position] + 8, placement[position] + 128):
             yield price, replaced(placement, position, value)
 
 
-def cost_off(row):
-    price, placement = row
+def cost_off(cursor):
+    price, placement = cursor
     for other in (price - 1, price + 1):
         if other >= 0:
             for at in (placement, placed(), FULL):
@@ -1835,10 +1894,10 @@ def cost_off(row):
         yield price + (1 << bit), placement
 
 
-def same_cost(row):
+def same_cost(cursor):
     """At the row, before and after all rows of its cost, and just behind it."""
-    price, placement = row
-    yield row
+    price, placement = cursor
+    yield cursor
     yield price, placed()
     yield price, FULL
     yield price, placement[:-1] + bytes([255])
@@ -1864,8 +1923,8 @@ def draw_by_hand():
         yield start_case(known.text, 0, FULL, first)
         yield start_case(known.text, HIGHEST_COST, FULL, first)
         if found:
-            yield start_case(known.text, *found[-1], first)
-            yield draw_case(known.text, (found[0][0], FULL))
+            yield start_case(known.text, *found[-1].cursor(), first)
+            yield draw_case(known.text, (found[0].cost, FULL))
         yield draw_case(known.text, (HIGHEST_COST, placed()), "finished")
         yield draw_case(known.text, (HIGHEST_COST, FULL), "finished")
         yield draw_case(known.text, (0, placed()))
@@ -1876,15 +1935,16 @@ def draw_around():
     tied = stores(1, 1) + pipe() + STOP
     for text in (M, tied):
         for row in rows(text):
-            for cursor in (*same_cost(row), *one_byte_off(row, range(16))):
+            at = row.cursor()
+            for cursor in (*same_cost(at), *one_byte_off(at, range(16))):
                 yield draw_case(text, cursor)
     for text, numbers in ((M, (0, 3, 5)), (tied, (1, 3, 4)), (GRID + STOP, (0, 7, 29, 31, 62, 63)),
                           (FIRST_AND_LAST, (0, 31, 63)), (POWERS + STOP, (0, 21, 63)),
                           (HEAVY, (0, 3, 7))):
         for number in numbers:
-            row = rows(text)[number]
-            for cursor in (*same_cost(row), *one_byte_off(row, (0, 1, 2, 7, 15)),
-                           *one_byte_high(row, (0, 1)), *cost_off(row)):
+            at = rows(text)[number].cursor()
+            for cursor in (*same_cost(at), *one_byte_off(at, (0, 1, 2, 7, 15)),
+                           *one_byte_high(at, (0, 1)), *cost_off(at)):
                 yield draw_case(text, cursor)
         for cursor in OUTERMOST:
             yield draw_case(text, cursor)
@@ -1894,15 +1954,15 @@ def draw_large():
     """As many candidates as are allowed, hence only a few draws of each."""
     for number in (0, 1, 255, 256, 32767, 65534, 65535):   # rows of LARGE_FREE count in binary
         cursor = (0, binary(number))
-        later = (0, binary(number + 1)) if number < 65535 else None
+        later = Row(0, binary(number + 1), Amounts(0, 0, 0)) if number < 65535 else None
         yield draw_case(LARGE_FREE, cursor, row_line(later))
         yield draw_case(LARGE_FREE, (0, replaced(binary(number), 15, 2)))
     for text in (LARGE_FREE, LARGE_PIPE, LARGE_SPLIT):
         found = rows(text)
         yield draw_case(text, None, row_line(found[0]))
-        yield draw_case(text, found[-1], "finished")
+        yield draw_case(text, found[-1].cursor(), "finished")
         for part in range(5):
-            price, placement = found[part * len(found) // 5]
+            price, placement = found[part * len(found) // 5].cursor()
             yield draw_case(text, (price, placement))
             yield draw_case(text, (price, FULL))
             yield draw_case(text, (price, replaced(placement, part, 255)))
@@ -1914,10 +1974,10 @@ def binary(number):
 
 def odd_cursor(dice, found, blocks):
     """A cursor at a row, or one that is only slightly not, or any at all."""
-    row = price, placement = dice.choice(found) if found else (0, placed())
+    at = price, placement = dice.choice(found).cursor() if found else (0, placed())
     position = dice.below(dice.choice((blocks, 16)))
-    near = [row, *same_cost(row), *one_byte_off(row, [position])]
-    far = [*cost_off(row), *one_byte_high(row, [position]), *OUTERMOST,
+    near = [at, *same_cost(at), *one_byte_off(at, [position])]
+    far = [*cost_off(at), *one_byte_high(at, [position]), *OUTERMOST,
            (price, dice.bytes(16)), (dice.below(price + 2), dice.bytes(16)),
            (price, placed(*(dice.below(8) for _ in range(blocks))))]
     return dice.choice(dice.choice((near, near, far)))
@@ -2048,8 +2108,10 @@ def check_interview():
     def place(digits_of_blocks):
         return placed(*(int(digit) for digit in digits_of_blocks))
 
-    require(listing(M) == ["2820 11111", "2840 11110", "2920 11000", "2940 11001", "3020 11011",
-                           "3040 11010", "options 6"], "interview 1: the rows of M")
+    require(listing(M) == ["2820 11111 1320 0 1500", "2840 11110 1320 20 1500",
+                           "2920 11000 1320 100 1500", "2940 11001 1320 120 1500",
+                           "3020 11011 1320 200 1500", "3040 11010 1320 220 1500",
+                           "options 6"], "interview 1: the rows of M")
     require(census(M) == (16, 8, 0, 8, 6), "interview 2: the census of M")
     option = option_of(read(M))
     require(option(place("11000")) == option(place("11100")),
@@ -2134,7 +2196,7 @@ def draws(text, count):
         row = draw(text, cursor)
         answers.append(row)
         if row is not None:
-            cursor = row
+            cursor = row.cursor()
     return answers
 
 
@@ -2149,7 +2211,7 @@ def check_agreement(text):
     require(counts.candidates == counts.breaking_16 + counts.breaking_17_only + counts.secure,
             f"the census does not add up: {text.hex()}")
     require(counts.options == len(found), f"options and rows: {text.hex()}")
-    require(all(one < other for one, other in itertools.pairwise(found)),
+    require(all(one.cursor() < other.cursor() for one, other in itertools.pairwise(found)),
             f"the rows do not rise: {text.hex()}")
     require(draws(text, len(found) + 3) == found + [None] * 3, f"chain of draws: {text.hex()}")
 
@@ -2164,30 +2226,37 @@ def check_standing(text):
     if count_candidates(described) == MOST_CANDIDATES:     # this would take too long
         return set()
     option = option_of(described)
-    standing = {option(row[1]): row for row in rows(text)}
+    standing = {option(row.placement): row for row in rows(text)}
     ways = set()
     for placement in candidates(described):
         if is_secure(described, placement):
-            own = cost(described, placement), placement
+            own = row_at(described, placement)
             row = standing[option(placement)]
-            require(row <= own, f"no row is earlier: {text.hex()}")
-            if row[1] != placement:
-                ways.add((row[0] < own[0], row[1] < placement))
+            require(row.cursor() <= own.cursor(), f"no row is earlier: {text.hex()}")
+            if row.placement != placement:
+                ways.add((row.cost < own.cost, row.placement < placement))
     return ways
 
 
 def traits(text):
     """What a description may show; the stored ones must show all of it between them."""
     described, counts, found = read(text), census(text), rows(text)
-    ways = check_standing(text)
+    costs, ways = {row.cost for row in found}, check_standing(text)
     return {
         "merged options": counts.secure > counts.options,
         "row of equal cost and earlier bytes": (False, True) in ways,
         "row of less cost and earlier bytes": (True, True) in ways,
         "row of less cost and later bytes": (True, False) in ways,
-        "equal costs of two options": len({price for price, _ in found}) < len(found),
-        "a free row of zeros": found[:1] == [(0, placed())],
-        "costs above 2^51": any(price > 2 ** 51 for price, _ in found),
+        "equal costs of two options": len(costs) < len(found),
+        "equal costs of other amounts": len(costs) < len({row.amounts for row in found}),
+        "a free row of zeros": [row.cursor() for row in found[:1]] == [(0, placed())],
+        "costs above 2^51": any(row.cost > 2 ** 51 for row in found),
+        "storage above 2^48": any(row.amounts.storage > 2 ** 48 for row in found),
+        "transfer above 2^34": any(row.amounts.transfer > 2 ** 34 for row in found),
+        "three amounts, each another": any(len({0, *row.amounts}) == 4 for row in found),
+        "storage alone": any(row.cost == row.amounts.storage > 0 for row in found),
+        "transfer alone": any(row.cost == row.amounts.transfer > 0 for row in found),
+        "cpu alone": any(row.cost == row.amounts.cpu > 0 for row in found),
         "writes broken alone": counts.breaking_17_only > 0,
         "candidates but none secure": counts.candidates > 0 and counts.secure == 0,
         "no candidates": counts.candidates == 0,

@@ -10,17 +10,22 @@ The programs are those in target/bin.
 
 A long list is not drawn whole: a draw takes a walk of its own.  Of more than MOST_DRAWS
 rows, draws begin at so many, from the first to the last; and the brute-force model lists
-descriptions of up to QUICK candidates and the examples.
+descriptions of up to QUICK candidates and the examples.  Of longer lists it judges and
+charges the rows that are drawn, and the amounts of all others must make up their cost.
 """
 
+import re
 import subprocess
 import sys
 
-from bruteforce import (ROOT, Refused, Tape, count_candidates, cursor_bytes, digits,
-                        listing, read, require, stored_bytes, text_of, with_length)
+from bruteforce import (ROOT, Refused, Tape, count_candidates, cursor_bytes, known_row,
+                        listing, read, require, row_at, row_line, stored_bytes, verdict,
+                        with_length)
 
 PROGRAMS = ROOT / "target" / "bin"
 OPERANDS = {"R": 0, "J": 16, "C": 0, "D": 25, "T": 18}   # bytes behind the description
+NUMBER = r"(0|[1-9][0-9]*)"
+ROW = re.compile(rf"{NUMBER} ([0-7]+) {NUMBER} {NUMBER} {NUMBER}")
 MOST_DRAWS = 100
 QUICK = 300
 
@@ -44,15 +49,28 @@ def printed(program, content):
     return done.stdout.decode("ascii").splitlines()
 
 
-def rows_in(lines, blocks):
-    """The rows that the lines show, as (cost, sixteen clouds)."""
-    split = [line.split(" ") for line in lines]
-    return [(int(cost), bytes(map(int, clouds.ljust(16, "0")))) for cost, clouds in split
-            if len(clouds) == blocks]
+def is_row(line, blocks):
+    """The line is that of a row of so many blocks, and its amounts make up its cost."""
+    shown = ROW.fullmatch(line)
+    if shown is None:
+        return False
+    price, clouds, *amounts = shown.groups()
+    return len(clouds) == blocks and int(price) == sum(map(int, amounts))
+
+
+def row_in(text, line):
+    """The row that a line shows: a secure placement, with what the model charges for it."""
+    described, row = read(text), known_row(*line.split())
+    secure = verdict(described, row.placement) is None
+    require(secure and row == row_at(described, row.placement), f"{text.hex()}: no row: {line}")
+    return row
 
 
 def check_lines(text, lines):
-    """What was printed is what the brute-force model says, as far as it is asked."""
+    """What was printed is what the brute-force model says, as far as it is asked.
+
+    Returns the lines of the rows, or None where the description is refused.
+    """
     try:
         described = read(text)
     except Refused as refusal:
@@ -61,20 +79,20 @@ def check_lines(text, lines):
     if count_candidates(described) <= QUICK:
         require(lines == listing(text), f"{text.hex()}: another list")
     require(lines[-1] == f"options {len(lines) - 1}", f"{text.hex()}: {lines[-1]}")
-    found = rows_in(lines[:-1], len(described.blocks))
-    require(len(found) == len(lines) - 1, f"{text.hex()}: a line that is no row")
-    return found
+    for line in lines[:-1]:
+        require(is_row(line, len(described.blocks)), f"{text.hex()}: no row: {line}")
+    return lines[:-1]
 
 
 def draws(text, found):
     """Cases of draws, each with its answer: from the start, and from rows along the list."""
-    ends = found + [None]
     step = max(1, len(found) // MOST_DRAWS)
-    for at in sorted({*range(0, len(ends), step), len(found)}):
-        cursor = cursor_bytes(0, 0, bytes(16)) if at == 0 else cursor_bytes(1, *found[at - 1])
-        row = ends[at]
-        answer = "finished" if row is None else f"row {row[0]} {digits(row[1])}"
-        yield with_length(b"D", text) + cursor, answer
+    for at in sorted({*range(0, len(found), step), len(found)}):
+        cursor = cursor_bytes(0, 0, bytes(16))
+        if at > 0:
+            cursor = cursor_bytes(1, *row_in(text, found[at - 1]).cursor())
+        row = row_in(text, found[at]) if at < len(found) else None
+        yield with_length(b"D", text) + cursor, row_line(row)
 
 
 def main():

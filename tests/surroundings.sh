@@ -1,5 +1,6 @@
 #!/bin/sh
-# The programs where input or output is not as it should be: nothing there, closed, full, a folder, ten megabytes of random bytes.
+# The programs where input or output is not as it should be: nothing there, closed, full, a folder, ten megabytes of random bytes; and
+# the longest list where there is little stack.
 # Each must end by itself (20 seconds are for a machine that is busy) and without a crash, with the answer or the error line that is written down here.
 #
 #   tests/surroundings.sh [FOLDER]        the programs are in FOLDER, or else in target/bin
@@ -19,6 +20,12 @@ mkdir -p "$work"
 run() {
     status=0
     timeout "$seconds" "$bin/$1" 2>"$work/err" || status=$?
+}
+
+# The same with so many kilobytes of stack.
+run_with_stack() {
+    status=0
+    (ulimit -s "$1" && exec timeout "$seconds" "$bin/$2") 2>"$work/err" || status=$?
 }
 
 fail() {
@@ -52,6 +59,14 @@ parts = [noise[at:at + most] for at in range(0, len(noise), most)]
 (work / "behind").write_bytes((examples / "interview.bin").read_bytes() + noise)
 (work / "behind-cases").write_bytes((examples / "interview.cases").read_bytes() + noise)
 (work / "cases").write_bytes(b"".join(b"R" + len(part).to_bytes(2, "big") + part for part in parts))
+
+# As many rows as there can be: sixteen data of the highest storage cost on two clouds, of which the second has a rate of one more.
+clouds = bytes.fromhex("01 00 FFFE 0000 0000 0000  01 00 FFFF 0000 0000 0000")
+(work / "largest").write_bytes(clouds + bytes.fromhex("02 00 FFFF FFFF") * 16 + b"\0")
+rows = sorted((digits.count("1"), digits) for digits in (f"{number:016b}" for number in range(65_536)))
+costs = [6554 * 65_535 * (16 * 65_534 + dearer) for dearer in range(17)]
+lines = [f"{costs[dearer]} {digits} {costs[dearer]} 0 0\n" for dearer, digits in rows]
+(work / "largest-list").write_text("".join(lines) + "options 65536\n")
 PYTHON
 : >"$work/empty"
 
@@ -117,5 +132,13 @@ run callcases <"$work/cases" >"$work/out"
 answers=$(python3 tests/bruteforce.py answer <"$work/cases")
 settle 'callcases on random descriptions' "$answers
 " ''
+
+# The longest list is printed whole where the stack is small, and where it is as usual.
+list=$(cat "$work/largest-list")
+for kilobytes in 4096 8192; do
+    run_with_stack "$kilobytes" listoptions <"$work/largest" >"$work/out"
+    settle "listoptions with $kilobytes kilobytes of stack" "$list
+" ''
+done
 
 echo "surroundings: $count runs ended as written down"

@@ -30,7 +30,7 @@ struct Lent {
     transfers: [u8; 128],
     count: u64,
     figures: [u64; 5],
-    answer: [u64; 2],
+    answer: [u64; 5],
     row: [u8; 16],
     rows: Vec<u64>,
     /// The engine alone needs it, and leaves zeros as it found them.
@@ -156,10 +156,10 @@ impl Lent {
             transfers: [0; 128],
             count: 0,
             figures: [0; 5],
-            answer: [0; 2],
+            answer: [0; 5],
             row: [0; 16],
-            rows: vec![0; 131_072],
-            scratch: vec![0; 131_072],
+            rows: vec![0; engine::LIST],
+            scratch: vec![0; engine::SCRATCH],
             extent: [0; 2],
         }
     }

@@ -4,12 +4,12 @@
 use std::io::{self, BufWriter, Read, Write};
 
 use reference::description::{Description, read};
-use reference::rules::Row;
+use reference::rules::{Priced, Row};
 
 /// Answers the cases on standard input, each with one line on standard output. The callers'
 /// function says what follows where the description is not refused; its letter is 'D' or 'C'.
 pub fn answer_all(
-    answer: impl Fn(u8, &Description, Option<Row>, &mut dyn Write) -> io::Result<()>,
+    answer: impl Fn(u8, &Description, Option<Priced>, &mut dyn Write) -> io::Result<()>,
 ) -> io::Result<()> {
     let mut input = Vec::new();
     io::stdin().read_to_end(&mut input)?;
@@ -35,24 +35,38 @@ fn part(bytes: &[u8], length: usize) -> io::Result<(&[u8], &[u8])> {
 }
 
 /// The cursor of a Draw; the start is `None`.
-fn cursor(operands: &[u8]) -> Option<Row> {
-    let (flag, row) = operands.split_first()?;
-    let (cost, placement) = row.split_first_chunk::<8>()?;
-    (*flag == 1).then_some(Row {
+fn cursor(operands: &[u8]) -> Option<Priced> {
+    let (flag, past) = operands.split_first()?;
+    let (cost, placement) = past.split_first_chunk::<8>()?;
+    (*flag == 1).then_some(Priced {
         cost: u64::from_be_bytes(*cost),
         placement: placement.try_into().ok()?,
     })
 }
 
-/// The line of a Draw.
-pub fn write_drawn(drawn: Option<Row>, out: &mut dyn Write) -> io::Result<()> {
+/// The line of a Draw, with the amounts of what was drawn.
+pub fn write_drawn(
+    described: &Description,
+    drawn: Option<Priced>,
+    out: &mut dyn Write,
+) -> io::Result<()> {
     match drawn {
-        Some(row) => writeln!(out, "row {} {}", row.cost, digits(&row.placement)),
+        Some(priced) => {
+            write!(out, "row ")?;
+            write_row(&described.row(priced), priced.placement.len(), out)
+        }
         None => writeln!(out, "finished"),
     }
 }
 
-pub fn digits(clouds: &[u8]) -> String {
+/// A row with the clouds of so many blocks, and the end of its line.
+pub fn write_row(row: &Row, blocks: usize, out: &mut (impl Write + ?Sized)) -> io::Result<()> {
+    let clouds = digits(&row.placement[..blocks]);
+    let [storage, transfer, cpu] = [row.storage, row.transfer, row.cpu];
+    writeln!(out, "{} {clouds} {storage} {transfer} {cpu}", row.cost)
+}
+
+fn digits(clouds: &[u8]) -> String {
     clouds
         .iter()
         .map(|&cloud| char::from(b'0' + cloud))
@@ -60,8 +74,8 @@ pub fn digits(clouds: &[u8]) -> String {
 }
 
 /// The bytes of a Draw.
-pub fn draw_case(text: &[u8], cursor: Option<Row>) -> Vec<u8> {
-    let Row { cost, placement } = cursor.unwrap_or(Row {
+pub fn draw_case(text: &[u8], cursor: Option<Priced>) -> Vec<u8> {
+    let Priced { cost, placement } = cursor.unwrap_or(Priced {
         cost: 0,
         placement: [0; 16],
     });

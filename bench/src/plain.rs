@@ -7,9 +7,10 @@
 mod candidates;
 mod description;
 
+use panel::calls::ROW;
 use panel::{Placement, Refusal};
 
-use candidates::{Clouds, Sameness, packed};
+use candidates::{Clouds, Sameness, packed, unpacked};
 use description::{Description, Few, Way, refuse_at};
 
 pub fn read(description: &[u8], counts: &mut [u64; 3]) -> Result<(), Refusal> {
@@ -69,7 +70,7 @@ pub fn census(description: &[u8], figures: &mut [u64; 5]) -> Result<(), Refusal>
 }
 
 /// From the start. The cheapest secure placement is the first row, so no options are told apart.
-pub fn draw(description: &[u8], answer: &mut [u64; 2], row: &mut [u8; 16]) -> Result<(), Refusal> {
+pub fn draw(description: &[u8], answer: &mut [u64; 5], row: &mut [u8; 16]) -> Result<(), Refusal> {
     let described = description::read(description)?;
     let mut cheapest: Option<(u64, Clouds)> = None;
     for placement in described.candidates() {
@@ -82,8 +83,11 @@ pub fn draw(description: &[u8], answer: &mut [u64; 2], row: &mut [u8; 16]) -> Re
         }
     }
     (*answer, *row) = match cheapest {
-        Some((cost, placement)) => ([1, cost], placement),
-        None => ([0; 2], [0; 16]),
+        Some((cost, placement)) => {
+            let [storage, transfer, cpu] = described.amounts(&placement);
+            ([1, cost, storage, transfer, cpu], placement)
+        }
+        None => ([0; 5], [0; 16]),
     };
     Ok(())
 }
@@ -103,9 +107,11 @@ pub fn list(description: &[u8], rows: &mut [u64], extent: &mut [u64; 2]) -> Resu
     placements.sort_unstable();
     placements.dedup_by_key(|(key, _, _)| *key);
     placements.sort_unstable_by_key(|(_, cost, packed)| (*cost, *packed));
-    fit(2 * placements.len(), rows.len())?;
-    for (words, (_, cost, packed)) in rows.chunks_exact_mut(2).zip(&placements) {
-        words.copy_from_slice(&[*cost, *packed]);
+    let (rows, _) = rows.as_chunks_mut::<ROW>();
+    fit(ROW * placements.len(), ROW * rows.len())?;
+    for (words, (_, cost, packed)) in rows.iter_mut().zip(&placements) {
+        let [storage, transfer, cpu] = described.amounts(&unpacked(*packed, blocks));
+        *words = [*cost, *packed, storage, transfer, cpu];
     }
     *extent = [placements.len(), blocks].map(|count| count as u64);
     Ok(())

@@ -7,25 +7,25 @@ use std::{env, io};
 
 use bench::cases::{answer_all, write_drawn};
 use reference::description::Description;
-use reference::options::rows_by_option;
-use reference::rules::Row;
+use reference::options::cheapest_by_option;
+use reference::rules::Priced;
 
-fn cheapest_past(described: &Description, cursor: Option<Row>) -> Option<Row> {
+fn cheapest_past(described: &Description, cursor: Option<Priced>) -> Option<Priced> {
     described
         .candidates()
         .filter(|placement| described.is_secure(placement))
-        .map(|placement| Row {
+        .map(|placement| Priced {
             cost: described.cost(&placement),
             placement,
         })
-        .filter(|row| cursor.is_none_or(|cursor| cursor < *row))
+        .filter(|priced| cursor.is_none_or(|cursor| cursor < *priced))
         .min()
 }
 
-fn row_past(described: &Description, cursor: Option<Row>) -> Option<Row> {
-    rows_by_option(described)
+fn row_past(described: &Description, cursor: Option<Priced>) -> Option<Priced> {
+    cheapest_by_option(described)
         .into_values()
-        .filter(|row| cursor.is_none_or(|cursor| cursor < *row))
+        .filter(|priced| cursor.is_none_or(|cursor| cursor < *priced))
         .min()
 }
 
@@ -35,5 +35,5 @@ fn main() -> io::Result<()> {
         Some("options") => row_past,
         _ => return Err(io::Error::other("brute plain, or brute options")),
     };
-    answer_all(|_, described, cursor, out| write_drawn(draw(described, cursor), out))
+    answer_all(|_, described, cursor, out| write_drawn(described, draw(described, cursor), out))
 }

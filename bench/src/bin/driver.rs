@@ -15,10 +15,10 @@ use bench::cases::{census_case, draw_case};
 use bench::generate::{chain, data, guarded, open, pinned};
 use bench::markdown::{header, name_of};
 use bench::measure::{Program, agree, least, ratios, store};
-use panel::calls::list;
+use panel::calls::{LIST, SCRATCH, list};
 use reference::description::{Description, read};
-use reference::options::sorted_rows;
-use reference::rules::Row;
+use reference::options::sorted_options;
+use reference::rules::Priced;
 
 const CALLCASES: Program = Program::new("target/bin/callcases", &[]);
 const LISTOPTIONS: Program = Program::new("target/bin/listoptions", &[]);
@@ -69,8 +69,8 @@ fn accepted(text: &[u8]) -> Description {
 /// the last row, and from past everything, over and over.
 fn draws(text: &[u8], seen: u64) -> Vec<u8> {
     let described = accepted(text);
-    let rows = sorted_rows(&described);
-    let end = Row {
+    let rows = sorted_options(&described);
+    let end = Priced {
         cost: u64::MAX,
         placement: [255; 16],
     };
@@ -188,7 +188,7 @@ fn list_ratios(bits: usize) -> io::Result<()> {
         let [ratio] = ratios(&LISTOPTIONS, [&PLAIN_LIST], &input, 21)?;
         let described = accepted(&text);
         let (name, candidates) = (name_of(&described), described.candidate_count());
-        let rows = sorted_rows(&described).len();
+        let rows = sorted_options(&described).len();
         println!("| {name} | {candidates} | {rows} | {ratio:.2} |");
     }
     println!();
@@ -197,15 +197,15 @@ fn list_ratios(bits: usize) -> io::Result<()> {
 
 /// The least time of one List call, in this process: at few rows a process takes far longer to
 /// start than to list.
-fn list_time(text: &[u8], rows: usize, scratch: &mut [Vec<u64>; 2]) -> f64 {
-    let [words, spare] = scratch;
+fn list_time(text: &[u8], rows: usize, lent: &mut [Vec<u64>; 2]) -> f64 {
+    let [words, scratch] = lent;
     let calls = (1 << 17) / rows;
     let mut extent = [0; 2];
     let mut time = f64::INFINITY;
     for _ in 0..25 {
         let start = Instant::now();
         for _ in 0..calls {
-            list(text, words, spare, &mut extent).expect("what is generated is listed");
+            list(text, words, scratch, &mut extent).expect("what is generated is listed");
         }
         time = time.min(start.elapsed().as_secs_f64() / calls as f64);
     }
@@ -219,9 +219,9 @@ fn list_growth(bits: usize) {
     );
     println!("at the most rows\n");
     header(&["Rows", "engine (flat)"]);
-    let mut scratch = [vec![0; 1 << 17], vec![0; 1 << 17]];
+    let mut lent = [vec![0; LIST], vec![0; SCRATCH]];
     let share = |blocks: usize| {
-        list_time(&data(blocks), 1 << blocks, &mut scratch) / (blocks << blocks) as f64
+        list_time(&data(blocks), 1 << blocks, &mut lent) / (blocks << blocks) as f64
     };
     let shares: Vec<f64> = sizes(bits).map(share).collect();
     let last = shares[shares.len() - 1];

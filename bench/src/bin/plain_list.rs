@@ -2,9 +2,9 @@
 
 use std::io::{self, BufWriter, Read, Write};
 
-use bench::cases::digits;
+use bench::cases::write_row;
 use reference::description::read;
-use reference::options::sorted_rows;
+use reference::options::sorted_options;
 
 fn main() -> io::Result<()> {
     let mut text = Vec::new();
@@ -12,12 +12,11 @@ fn main() -> io::Result<()> {
     let mut out = BufWriter::new(io::stdout().lock());
     match read(&text) {
         Ok(described) => {
-            let rows = sorted_rows(&described);
-            for row in &rows {
-                let clouds = &row.placement[..described.blocks.len()];
-                writeln!(out, "{} {}", row.cost, digits(clouds))?;
+            let options = sorted_options(&described);
+            for &priced in &options {
+                write_row(&described.row(priced), described.blocks.len(), &mut out)?;
             }
-            writeln!(out, "options {}", rows.len())?;
+            writeln!(out, "options {}", options.len())?;
         }
         Err(refusal) => writeln!(out, "{refusal}")?,
     }

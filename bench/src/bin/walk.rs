@@ -10,7 +10,7 @@ fn main() -> io::Result<()> {
         let tables = Tables::of(described);
         if letter == b'D' {
             let task = Task::draw(cursor, described.blocks.len());
-            return write_drawn(tables.best(&tables.see(&task)), out);
+            return write_drawn(described, tables.best(&tables.see(&task)), out);
         }
         let seen = tables.see(&Task::count());
         let [broken_16, broken_17] = [seen.breaking_16, seen.breaking_17_only];

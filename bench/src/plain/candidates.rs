@@ -73,9 +73,12 @@ impl Edge {
 }
 
 impl Block {
-    fn gigabytes(&self) -> u64 {
+    /// What a transfer of the datum is charged at these rates.
+    fn moved(&self, outward: u16, inward: u16) -> u64 {
         match self.kind {
-            Kind::Datum { gigabytes, .. } => u64::from(gigabytes),
+            Kind::Datum { gigabytes, .. } => {
+                u64::from(gigabytes) * (u64::from(outward) + u64::from(inward))
+            }
             Kind::Service { .. } => 0,
         }
     }
@@ -132,16 +135,35 @@ impl Description {
             if service.level < datum.level {
                 return None;
             }
-            let [outward, inward] = match edge.way {
-                Way::Reads => [home.outward, service.inward],
-                Way::Writes => [service.outward, home.inward],
+            cost += match edge.way {
+                Way::Reads => datum.moved(home.outward, service.inward),
+                Way::Writes => datum.moved(service.outward, home.inward),
             };
-            cost += datum.gigabytes() * (u64::from(outward) + u64::from(inward));
         }
         for (block, &cloud) in self.blocks.iter().zip(placement) {
             cost += self.cloud(cloud).charge(block);
         }
         Some(cost)
+    }
+
+    /// What a secure placement is charged for storage, for transfers and for cpu.
+    pub fn amounts(&self, placement: &Clouds) -> [u64; 3] {
+        let [mut storage, mut transfer, mut cpu] = [0; 3];
+        for (block, &cloud) in self.blocks.iter().zip(placement) {
+            let charge = self.cloud(cloud).charge(block);
+            match block.kind {
+                Kind::Datum { .. } => storage += charge,
+                Kind::Service { .. } => cpu += charge,
+            }
+        }
+        for edge in self.edges.iter() {
+            let [leaves, enters] = edge.course(placement);
+            if leaves != enters {
+                let (outward, inward) = (self.cloud(leaves).outward, self.cloud(enters).inward);
+                transfer += self.datum(edge).moved(outward, inward);
+            }
+        }
+        [storage, transfer, cpu]
     }
 }
 
@@ -204,4 +226,15 @@ impl Sameness {
 /// The clouds as the digits of one number to the base 8, the first block's digit the highest.
 pub fn packed(clouds: &[u8]) -> u64 {
     clouds.iter().fold(0, |n, &cloud| n * 8 + u64::from(cloud))
+}
+
+/// The clouds of so many blocks, from their digits.
+pub fn unpacked(packed: u64, blocks: usize) -> Clouds {
+    let mut clouds = [0; 16];
+    let mut rest = packed;
+    for cloud in clouds[..blocks].iter_mut().rev() {
+        *cloud = (rest % 8) as u8;
+        rest /= 8;
+    }
+    clouds
 }

@@ -8,6 +8,15 @@
 use crate::ffi::{self, Status};
 use crate::{Cursor, Placement, Refusal};
 
+/// Words of a row in a [`list`].
+pub const ROW: usize = 5;
+
+/// Words that hold the rows of any description.
+pub const LIST: usize = ROW * 65_536;
+
+/// Words of scratch that are enough for any description: two for each row.
+pub const SCRATCH: usize = 2 * 65_536;
+
 fn answered(status: Status) -> Result<(), Refusal> {
     if status == 0 {
         return Ok(());
@@ -89,16 +98,17 @@ pub fn census(description: &[u8], figures: &mut [u64; 5]) -> Result<(), Refusal>
     answered(ffi::census(description, figures))
 }
 
-/// Draws the first row past a cursor. `answer` is 1 and the row's cost, with its clouds in `row`;
-/// or 0 and 0, with zeros in `row`, where no row is left.
+/// Draws the first row past a cursor. `answer` is 1 and the row's cost, storage, transfer and cpu,
+/// with its clouds in `row`; or zeros, in `row` too, where no row is left.
 ///
 /// ```
 /// use panel::Cursor;
 ///
 /// let interview = include_bytes!("../../../examples/interview.bin");
-/// let (mut answer, mut row) = ([0; 2], [0; 16]);
+/// let (mut answer, mut row) = ([0; 5], [0; 16]);
 /// panel::calls::draw(interview, Cursor::Start, &mut answer, &mut row)?;
-/// assert_eq!((answer, &row[..5]), ([1, 2820], &[1, 1, 1, 1, 1][..]));
+/// assert_eq!(answer, [1, 2820, 1320, 0, 1500]);
+/// assert_eq!(row[..5], [1, 1, 1, 1, 1]);
 /// # Ok::<(), panel::Refusal>(())
 /// ```
 ///
@@ -108,7 +118,7 @@ pub fn census(description: &[u8], figures: &mut [u64; 5]) -> Result<(), Refusal>
 pub fn draw(
     description: &[u8],
     cursor: Cursor,
-    answer: &mut [u64; 2],
+    answer: &mut [u64; 5],
     row: &mut [u8; 16],
 ) -> Result<(), Refusal> {
     let past = match &cursor {
@@ -118,23 +128,26 @@ pub fn draw(
     answered(ffi::draw(description, past, answer, row))
 }
 
-/// Lists all rows after one walk. A row takes two words of `rows`: its cost, and the clouds of its
-/// blocks as the digits of one number to the base 8, the first block's digit the highest. `scratch`
-/// is for sorting and must be as long as the rows need; that much of it is zeros afterwards.
-/// `extent` is the number of rows and of blocks. 131,072 words each are always enough.
+/// Lists all rows after one walk. A row takes [`ROW`] words of `rows`: its cost, the clouds of its
+/// blocks as the digits of one number to the base 8, the first block's digit the highest, and its
+/// storage, transfer and cpu. `scratch` is for sorting, two words for each row; that much of it is
+/// zeros afterwards. `extent` is the number of rows and of blocks. [`LIST`] words of rows and
+/// [`SCRATCH`] words of scratch are always enough.
 ///
 /// ```
 /// let interview = include_bytes!("../../../examples/interview.bin");
-/// let (mut rows, mut scratch, mut extent) = ([0; 12], [0; 12], [0; 2]);
+/// let (mut rows, mut scratch, mut extent) = ([0; 30], [0; 12], [0; 2]);
 /// panel::calls::list(interview, &mut rows, &mut scratch, &mut extent)?;
 /// assert_eq!(extent, [6, 5]);
-/// assert_eq!(rows[..2], [2820, 0o11111]);
+/// assert_eq!(rows[..5], [2820, 0o11111, 1320, 0, 1500]);
+/// assert_eq!(rows[5..10], [2840, 0o11110, 1320, 20, 1500]);
 /// # Ok::<(), panel::Refusal>(())
 /// ```
 ///
 /// # Errors
 ///
-/// Refuses with 1 to 12, and with 16 and the words needed where either slice is shorter than that.
+/// Refuses with 1 to 12, and with 16 and the words of rows that are needed where there are fewer,
+/// or where the scratch has less than two fifths of that.
 pub fn list(
     description: &[u8],
     rows: &mut [u64],

@@ -146,17 +146,17 @@ impl Description {
     ///
     /// let interview = Description::read(include_bytes!("../../../examples/interview.bin"))?;
     /// let first = interview.draw(Cursor::Start).expect("there is a secure placement");
-    /// assert_eq!(first.to_string(), "2820 11111");
+    /// assert_eq!(first.to_string(), "2820 11111 1320 0 1500");
     /// let second = interview.draw(first.into()).expect("there are two");
-    /// assert_eq!(second.to_string(), "2840 11110");
+    /// assert_eq!(second.to_string(), "2840 11110 1320 20 1500");
     /// # Ok::<(), panel::Refusal>(())
     /// ```
     #[must_use]
     pub fn draw(&self, cursor: Cursor) -> Option<Row> {
-        let (mut answer, mut clouds) = ([0; 2], [0; 16]);
+        let (mut answer, mut clouds) = ([0; 5], [0; 16]);
         accepted(calls::draw(&self.bytes, cursor, &mut answer, &mut clouds));
-        let [found, cost] = answer;
-        (found == 1).then(|| Row::new(cost, Placement(clouds), self.blocks))
+        let [found, cost, amounts @ ..] = answer;
+        (found == 1).then(|| Row::new(cost, Placement(clouds), self.blocks, amounts))
     }
 
     /// All rows in their order, each drawn when it is asked for.
@@ -188,8 +188,10 @@ impl Description {
     /// ```
     #[must_use]
     pub fn list(&self) -> Vec<Row> {
-        let mut rows = vec![0; 2 * self.most_rows()];
-        let mut scratch = rows.clone();
+        let most = self.most_rows();
+        let mut rows = vec![0; calls::ROW * most];
+        // Two words sort a row, whatever else it has.
+        let mut scratch = vec![0; 2 * most];
         let mut extent = [0; 2];
         accepted(calls::list(
             &self.bytes,
@@ -197,10 +199,9 @@ impl Description {
             &mut scratch,
             &mut extent,
         ));
-        let (rows, _) = rows.as_chunks::<2>();
+        let (rows, _) = rows.as_chunks::<{ calls::ROW }>();
         let rows = rows.iter().take(extent[0] as usize);
-        rows.map(|&[cost, packed]| Row::unpack(cost, packed, self.blocks))
-            .collect()
+        rows.map(|&words| Row::unpack(words, self.blocks)).collect()
     }
 
     /// A row is a placement of every block on some cloud, and there are no more than candidates.

@@ -80,7 +80,7 @@ pub fn census(description: &[u8], figures: &mut [u64; 5]) -> Status {
 pub fn draw(
     description: &[u8],
     past: Option<(u64, &[u8; 16])>,
-    answer: &mut [u64; 2],
+    answer: &mut [u64; 5],
     row: &mut [u8; 16],
 ) -> Status {
     let (bytes, length) = (description.as_ptr(), description.len());
@@ -88,7 +88,7 @@ pub fn draw(
     let (start, placement) = (past.is_none(), placement.as_ptr());
     let (answer, row) = (answer.as_mut_ptr(), row.as_mut_ptr());
     // SAFETY: `bytes` is valid for `length` reads, `placement` for sixteen; `answer` is valid for
-    // two words of writes and `row` for sixteen bytes, and the two do not overlap.
+    // five words of writes and `row` for sixteen bytes, and the two do not overlap.
     unsafe { library::panel_draw(bytes, length, start, cost, placement, answer, row) }
 }
 

@@ -3,7 +3,8 @@
 //! A *description* is a string of bytes that declares clouds, data, services, and which service
 //! reads and writes which datum (docs/FORMAT.md has all of it). A *placement* puts each block, that
 //! is each datum and service, on a cloud. The engine tells which placements are secure, what each
-//! costs, and lists the options that an editor has, cheapest first, one *row* for each.
+//! costs, and lists the options that an editor has, cheapest first, one *row* for each, with what of
+//! its cost is for storage, for transfers and for cpu.
 //!
 //! ```
 //! use panel::{Description, Placement};
@@ -16,7 +17,14 @@
 //! let lines: Vec<String> = interview.rows().map(|row| row.to_string()).collect();
 //! assert_eq!(
 //!     lines,
-//!     ["2820 11111", "2840 11110", "2920 11000", "2940 11001", "3020 11011", "3040 11010"]
+//!     [
+//!         "2820 11111 1320 0 1500",
+//!         "2840 11110 1320 20 1500",
+//!         "2920 11000 1320 100 1500",
+//!         "2940 11001 1320 120 1500",
+//!         "3020 11011 1320 200 1500",
+//!         "3040 11010 1320 220 1500",
+//!     ]
 //! );
 //!
 //! // With its transcode on cloud 0, the interview would be copied to a store below its level.

@@ -23,7 +23,7 @@ pub struct Refusal {
     /// What is wrong, as docs/FORMAT.md numbers it.
     pub number: u8,
     /// Where: a byte's offset for 1 to 8, a block for 9, an edge for 10, 11, 14 and 15, a position
-    /// of the placement for 13, the length that is needed for 16.
+    /// of the placement for 13, the length that is needed for 16: of the buffer, or of the rows.
     pub place: u64,
 }
 
@@ -97,7 +97,8 @@ fn words_on_placement(number: u8) -> [&'static str; 2] {
         ],
         _ => [
             "the lent memory is too short; lend at least ",
-            " bytes for transfers, or as many words of rows and of scratch for a list",
+            " bytes for transfers, or as many words of rows and two fifths of that of scratch for \
+             a list",
         ],
     }
 }
@@ -183,7 +184,7 @@ mod tests {
         assert_eq!(
             sentence(16, 4),
             "refused 16 4: the lent memory is too short; lend at least 4 bytes for transfers, or \
-             as many words of rows and of scratch for a list"
+             as many words of rows and two fifths of that of scratch for a list"
         );
     }
 

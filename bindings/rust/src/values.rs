@@ -2,6 +2,8 @@
 
 use std::fmt;
 
+use crate::calls::ROW;
+
 /// The cloud of each block: the byte at position b is the number of the cloud on which block b
 /// stands. Positions that have no block hold 0.
 ///
@@ -34,10 +36,12 @@ impl<const N: usize> From<[u8; N]> for Placement {
     }
 }
 
-/// An option: its cheapest placement and what that costs.
+/// An option: its cheapest placement, what that costs, and the amounts that make up its cost: for
+/// storage, for transfers and for cpu.
 ///
 /// Rows are ordered by cost, the lower first, and at equal cost by their bytes. A row is shown as
-/// `listoptions` prints it: the cost, a space, and a digit for each block.
+/// `listoptions` prints it: the cost, a digit for each block, and the three amounts, with single
+/// spaces in between.
 ///
 /// ```
 /// use panel::Description;
@@ -47,42 +51,70 @@ impl<const N: usize> From<[u8; N]> for Placement {
 /// assert!(rows.is_sorted());
 /// assert_eq!(rows[1].cost(), 2840);
 /// assert_eq!(rows[1].clouds(), [1, 1, 1, 1, 0]);
-/// assert_eq!(rows[1].to_string(), "2840 11110");
+/// assert_eq!((rows[1].storage(), rows[1].transfer(), rows[1].cpu()), (1320, 20, 1500));
+/// assert_eq!(rows[1].to_string(), "2840 11110 1320 20 1500");
 /// # Ok::<(), panel::Refusal>(())
 /// ```
 #[derive(Debug, Clone, Copy, PartialEq, Eq, PartialOrd, Ord, Hash)]
 pub struct Row {
-    // The order of the fields is the order of rows.
+    // The order of the fields is the order of rows. The amounts are last: among the rows of one
+    // description they decide nothing.
     cost: u64,
     placement: Placement,
     blocks: usize,
+    storage: u64,
+    transfer: u64,
+    cpu: u64,
 }
 
 impl Row {
-    /// `blocks` is at most sixteen.
-    pub(crate) fn new(cost: u64, placement: Placement, blocks: usize) -> Self {
+    /// `blocks` is at most sixteen; the amounts are storage, transfer and cpu.
+    pub(crate) fn new(cost: u64, placement: Placement, blocks: usize, amounts: [u64; 3]) -> Self {
+        let [storage, transfer, cpu] = amounts;
         Row {
             cost,
             placement,
             blocks,
+            storage,
+            transfer,
+            cpu,
         }
     }
 
-    /// From two words of a list: the cost, and the clouds as digits to the base 8.
-    pub(crate) fn unpack(cost: u64, packed: u64, blocks: usize) -> Self {
+    /// From the words of a list: the cost, the clouds as digits to the base 8, the amounts.
+    pub(crate) fn unpack(words: [u64; ROW], blocks: usize) -> Self {
+        let [cost, packed, amounts @ ..] = words;
         let mut clouds = [0; 16];
         let mut rest = packed;
         for cloud in clouds[..blocks].iter_mut().rev() {
             *cloud = (rest % 8) as u8;
             rest /= 8;
         }
-        Row::new(cost, Placement(clouds), blocks)
+        Row::new(cost, Placement(clouds), blocks, amounts)
     }
 
-    /// What the placement costs; below 2^53.
+    /// What the placement costs: the sum of its storage, transfer and cpu; below 2^53.
     #[must_use]
     pub fn cost(&self) -> u64 {
         self.cost
+    }
+
+    /// What the data are charged for their time in storage.
+    #[must_use]
+    pub fn storage(&self) -> u64 {
+        self.storage
+    }
+
+    /// What the transfers are charged, by the clouds that data leave and those that they enter.
+    #[must_use]
+    pub fn transfer(&self) -> u64 {
+        self.transfer
+    }
+
+    /// What the services are charged for their cpu units.
+    #[must_use]
+    pub fn cpu(&self) -> u64 {
+        self.cpu
     }
 
     /// The placement, to judge it or to ask for its transfers.
@@ -101,7 +133,8 @@ impl Row {
 impl fmt::Display for Row {
     fn fmt(&self, f: &mut fmt::Formatter<'_>) -> fmt::Result {
         write!(f, "{} ", self.cost)?;
-        self.clouds().iter().try_for_each(|c| write!(f, "{c}"))
+        self.clouds().iter().try_for_each(|c| write!(f, "{c}"))?;
+        write!(f, " {} {} {}", self.storage, self.transfer, self.cpu)
     }
 }
 
@@ -207,11 +240,13 @@ mod tests {
 
     #[test]
     fn a_packed_row_is_unpacked() {
-        let row = Row::unpack(2820, 4681, 5);
-        assert_eq!(row.clouds(), [1, 1, 1, 1, 1]);
-        assert_eq!(row.placement(), &Placement::from([1, 1, 1, 1, 1]));
-        assert_eq!(Row::unpack(0, 0o7, 2).clouds(), [0, 7]);
-        let sixteen = Row::unpack(1, 0o1234_5670_0000_0007, 16);
+        let row = Row::unpack([2840, 4680, 1320, 20, 1500], 5);
+        assert_eq!(row.cost(), 2840);
+        assert_eq!(row.clouds(), [1, 1, 1, 1, 0]);
+        assert_eq!(row.placement(), &Placement::from([1, 1, 1, 1]));
+        assert_eq!((row.storage(), row.transfer(), row.cpu()), (1320, 20, 1500));
+        assert_eq!(Row::unpack([0, 0o7, 0, 0, 0], 2).clouds(), [0, 7]);
+        let sixteen = Row::unpack([1, 0o1234_5670_0000_0007, 0, 0, 1], 16);
         assert_eq!(
             sixteen.clouds(),
             [1, 2, 3, 4, 5, 6, 7, 0, 0, 0, 0, 0, 0, 0, 0, 7]
@@ -220,23 +255,26 @@ mod tests {
 
     #[test]
     fn rows_are_ordered_by_cost_and_then_bytes() {
-        let row = |cost, clouds: [u8; 2]| Row::new(cost, clouds.into(), 2);
-        assert!(row(1, [7, 7]) < row(2, [0, 0]));
-        assert!(row(2, [0, 7]) < row(2, [1, 0]));
-        assert_eq!(row(2, [1, 0]), row(2, [1, 0]));
+        let row = |cost, clouds: [u8; 2], amounts| Row::new(cost, clouds.into(), 2, amounts);
+        assert!(row(1, [7, 7], [0, 0, 1]) < row(2, [0, 0], [0, 0, 2]));
+        assert!(row(2, [0, 7], [2, 0, 0]) < row(2, [1, 0], [0, 0, 2]));
+        assert_eq!(row(2, [1, 0], [0, 1, 1]), row(2, [1, 0], [0, 1, 1]));
     }
 
     #[test]
-    fn a_row_shows_a_digit_for_each_block() {
-        assert_eq!(Row::new(0, [0].into(), 1).to_string(), "0 0");
-        let widest = Row::new(1 << 52, [7; 16].into(), 16);
-        assert_eq!(widest.to_string(), "4503599627370496 7777777777777777");
+    fn a_row_shows_a_digit_for_each_block_and_three_amounts() {
+        assert_eq!(Row::new(0, [0].into(), 1, [0; 3]).to_string(), "0 0 0 0 0");
+        let widest = Row::new(1 << 52, [7; 16].into(), 16, [1 << 51, 2, (1 << 51) - 2]);
+        assert_eq!(
+            widest.to_string(),
+            "4503599627370496 7777777777777777 2251799813685248 2 2251799813685246"
+        );
     }
 
     #[test]
     fn a_cursor_is_the_start_unless_said() {
         assert_eq!(Cursor::default(), Cursor::Start);
-        let past = Cursor::from(Row::new(3, [1].into(), 1));
+        let past = Cursor::from(Row::new(3, [1].into(), 1, [1, 0, 2]));
         let placement = [1].into();
         assert_eq!(past, Cursor::Past { cost: 3, placement });
     }

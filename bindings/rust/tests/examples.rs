@@ -1,6 +1,6 @@
 //! The stored examples and the examples of docs/FORMAT.md, through the public types.
 
-use panel::{Census, Cursor, Description, Placement, Refusal, Transfer};
+use panel::{Census, Cursor, Description, Placement, Refusal, Transfer, calls};
 
 const INTERVIEW: &[u8] = include_bytes!("../../../examples/interview.bin");
 const SECOND: &[u8] = include_bytes!("../../../examples/second.bin");
@@ -45,6 +45,37 @@ fn draws_and_list_have_the_same_rows() {
         assert!(drawn.is_sorted_by(|one, other| one < other));
         assert_eq!(drawn.len() as u64, description.census().options);
     }
+}
+
+#[test]
+fn the_amounts_of_a_row_make_up_its_cost() {
+    for bytes in [INTERVIEW, SECOND] {
+        for row in accepted(bytes).list() {
+            assert_eq!(row.cost(), row.storage() + row.transfer() + row.cpu());
+        }
+    }
+    let first = accepted(SECOND).draw(Cursor::Start);
+    let amounts = first.map(|row| [row.storage(), row.transfer(), row.cpu()]);
+    assert_eq!(amounts, Some([3900, 50, 2350]));
+}
+
+#[test]
+fn a_list_takes_what_its_rows_need() {
+    let list = |rows: usize, scratch: usize| {
+        let (mut rows, mut scratch) = (vec![7; rows], vec![7; scratch]);
+        let listed = calls::list(INTERVIEW, &mut rows, &mut scratch, &mut [0; 2]);
+        listed.map(|()| (rows, scratch))
+    };
+    let (rows, scratch) = list(31, 13).expect("six rows fit");
+    assert_eq!(rows[25..], [3040, 0o11010, 1320, 220, 1500, 7]);
+    assert_eq!(scratch, [0, 0, 0, 0, 0, 0, 0, 0, 0, 0, 0, 0, 7]);
+    let refusal = Refusal {
+        number: 16,
+        place: 30,
+    };
+    assert!(list(30, 12).is_ok());
+    assert_eq!(list(29, 12), Err(refusal));
+    assert_eq!(list(30, 11), Err(refusal));
 }
 
 #[test]
@@ -132,7 +163,7 @@ fn the_most_candidates_are_listed() {
     let description = accepted(&data_alone(2, 16));
     let rows = description.list();
     assert_eq!(rows.len(), 65_536);
-    assert_eq!(rows[65_535].to_string(), "0 1111111111111111");
+    assert_eq!(rows[65_535].to_string(), "0 1111111111111111 0 0 0");
     let census = Census {
         candidates: 65_536,
         breaking16: 0,
@@ -152,11 +183,11 @@ fn any_cursor_will_do() {
     };
     assert_eq!(
         drawn(2840, Placement::default()).as_deref(),
-        Some("2840 11110")
+        Some("2840 11110 1320 20 1500")
     );
     assert_eq!(
         drawn(2840, Placement([255; 16])).as_deref(),
-        Some("2920 11000")
+        Some("2920 11000 1320 100 1500")
     );
     assert_eq!(drawn(u64::MAX, Placement([255; 16])), None);
 }

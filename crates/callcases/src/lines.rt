@@ -5,6 +5,7 @@ use crate::buffer::Buffer;
 use crate::output::put;
 use crate::output::put_clouds;
 use crate::output::put_number;
+use costs::answers::Bill;
 use costs::answers::Transferred;
 use description::workflow::Refusal;
 use judging::answers::Acceptance;
@@ -106,7 +107,18 @@ fn put_row(out: &mut Buffer, at: usize, row: Row) -> usize
     let at = put(out, at, b"row");
     let at = put_number(out, at, cost);
     let at = put(out, at, b" ");
-    put_clouds(out, at, placement)
+    let at = put_clouds(out, at, placement);
+    let bill = row.bill;
+    put_bill(out, at, bill)
+}
+
+fn put_bill(out: &mut Buffer, at: usize, bill: Bill) -> usize
+    requires { ⌜ at + 63 ≤ size ⌝ }
+    ensures { λ r. ⌜ r ≤ at + 63 ⌝ }
+{
+    let at = put_number(out, at, bill.storage);
+    let at = put_number(out, at, bill.transfer);
+    put_number(out, at, bill.cpu)
 }
 
 fn put_refusal(out: &mut Buffer, at: usize, r: Refusal) -> usize

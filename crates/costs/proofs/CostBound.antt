@@ -1,8 +1,8 @@
--- A cost is below 2^53, whatever the placement, where the description keeps the format's limits and ranges.
+-- A cost and each amount of its bill are below 2^53, whatever the placement, where the description keeps the format's limits and ranges.
 use Prim.Native.Nat.{ℕ, _*_, _^_, _≤_, _<_, zero-le}
 use native.Mathlib.Nat.{mul-le-mul}
 use native.Mathlib.Omega.{arith}
-use mathlib.Core.Path.{_≡_}
+use mathlib.Core.Path.{_≡_, refl}
 use mathlib.Core.List.{List, map}
 use lib.ListN.{length, getD}
 use Rattle.sequences.specs.Lists.{below, sum}
@@ -17,9 +17,10 @@ use Rattle.description.specs.Format.{Description, cloud, block}
 use Rattle.description.specs.Bytes.{Bytes}
 use Rattle.description.specs.Invariants.{RatesFit, kindFits, InRange, Bounded}
 use Rattle.security.specs.Soundness.{read}
+use Rattle.costs.specs.declared.answers.Bill.{Bill}
 use Rattle.costs.specs.Transfers.{Transfer, transfersFrom, transfers}
 use Rattle.weights.specs.Weights.{costLimit}
-use Rattle.costs.specs.Cost.{gigabytes, chargedOf, storageOf, cpuOf, transferCost, ofBlocks, cost}
+use Rattle.costs.specs.Cost.{gigabytes, chargedOf, storageOf, cpuOf, transferCost, ofBlocks, billOf, total, cost}
 use Rattle.costs.proofs.Transferring.{transfers-length}
 use Rattle.security.proofs.Accepted.{read-bounded}
 
@@ -110,3 +111,22 @@ bounded-cost d p h = omega (arith, storage-sum d p h, cpu-sum d p h, transfer-su
 -- so is every cost on an accepted description, of any list of numbers for a placement
 pub cost-below : (s p : List ℕ) (d : Description) → Bytes s → read s ≡ ok d → cost d p < costLimit
 cost-below s p d b r = bounded-cost d p (read-bounded s d r b)
+
+-- ---- amounts
+
+-- a cost is the sum of its bill
+pub cost-total : (d : Description) (p : List ℕ) → cost d p ≡ total (billOf d p)
+unfolding cost
+cost-total d p = refl
+
+-- an amount is below 2^53 where the sum of the bill is
+pub record AmountsBelow (b : Bill) : Type 0 where
+  pub storage : b .storage < costLimit
+  pub transfer : b .transfer < costLimit
+  pub cpu : b .cpu < costLimit
+
+pub bounded-amounts : (d : Description) (p : List ℕ) → Bounded d → AmountsBelow (billOf d p)
+bounded-amounts d p h =
+    let t = bounded-cost d p h in
+    let e = cost-total d p in
+    record { storage = omega arith; transfer = omega arith; cpu = omega arith }

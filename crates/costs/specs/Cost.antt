@@ -1,4 +1,4 @@
--- The cost of a placement: storage, transfers and computing.
+-- What a placement costs: three amounts, for storage, transfers and computing, which are its bill, and their sum.
 use Prim.Native.Nat.{ℕ, _+_, _*_, _/_}
 use mathlib.Core.Bool.{cond}
 use mathlib.Core.List.{List, map}
@@ -9,6 +9,7 @@ use Rattle.description.specs.declared.workflow.Kind.the-variants.{Datum, Servic
 use Rattle.description.specs.declared.workflow.Edge.{Edge}
 use Rattle.description.specs.Format.{Description, cloud, block}
 use Rattle.security.specs.Placements.{moves}
+use Rattle.costs.specs.declared.answers.Bill.{Bill}
 use Rattle.costs.specs.Transfers.{Transfer, transferOf, transfers}
 use Rattle.sequences.specs.Lists.{below, sum}
 
@@ -44,5 +45,22 @@ ofBlock amount d p b = amount (cloud d (getD p b 0)) (block d b .kind)
 abbrev pub ofBlocks : (Cloud → Kind → ℕ) → Description → List ℕ → ℕ
 ofBlocks amount d p = sum (map (ofBlock amount d p) (below (length (d .blocks))))
 
+-- the three amounts: what is paid for storing the data, for the transfers, for the services' computing
+abbrev pub storageAmount : Description → List ℕ → ℕ
+storageAmount d p = ofBlocks storageOf d p
+
+abbrev pub transferAmount : Description → List ℕ → ℕ
+transferAmount d p = sum (map (transferCost d) (transfers d p))
+
+abbrev pub cpuAmount : Description → List ℕ → ℕ
+cpuAmount d p = ofBlocks cpuOf d p
+
+abbrev pub billOf : Description → List ℕ → Bill
+billOf d p = record { storage = storageAmount d p; transfer = transferAmount d p; cpu = cpuAmount d p }
+
+-- the cost is their sum
+abbrev pub total : Bill → ℕ
+total b = b .storage + b .transfer + b .cpu
+
 unfoldable pub cost : Description → List ℕ → ℕ
-cost d p = ofBlocks storageOf d p + sum (map (transferCost d) (transfers d p)) + ofBlocks cpuOf d p
+cost d p = total (billOf d p)

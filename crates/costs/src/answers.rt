@@ -1,4 +1,4 @@
-// What Transfers answers, and the charges by name.
+// What Transfers answers, the charges by name, and a bill.
 use description::workflow::Refusal;
 
 pub enum Transferred {
@@ -10,4 +10,11 @@ pub enum Transferred {
 pub enum Charge {
     Storage,
     Cpu,
+}
+
+// What a placement costs, by its parts: the amounts for storage, transfers and computing.
+pub struct Bill {
+    pub storage: u64,
+    pub transfer: u64,
+    pub cpu: u64,
 }

@@ -1,13 +1,11 @@
-// The cost of a placement: storage, transfers and computing. Each term is bounded by its operands' widths, so no sum overflows.
+// What a placement costs: storage, transfers and computing. Each term is bounded by its operands' widths, so no sum overflows.
 ghost use mathlib.Core.Path.{_≡_};
-ghost use mathlib.Core.List.{map};
 ghost use Prim.Native.Nat.{_≤_, _<_, _*_};
-ghost use Rattle.sequences.specs.Lists.{sum};
 ghost use Rattle.weights.specs.Weights.{costLimit};
 ghost use Rattle.description.specs.Meaning.{describes};
 ghost use Rattle.costs.specs.Answers.{amountOf};
-ghost use Rattle.costs.specs.Cost.{gigabytes, chargedOf, storageOf, cpuOf, ofBlocks, transferCost, edgeCost, cost};
-ghost use Rattle.costs.specs.Transfers.{transfers};
+ghost use Rattle.costs.specs.Cost.{gigabytes, chargedOf, storageOf, cpuOf, ofBlocks, edgeCost, transferAmount, billOf, total};
+use crate::answers::Bill;
 use crate::answers::Charge;
 use crate::transfer::destination_of;
 use crate::transfer::source_of;
@@ -120,7 +118,7 @@ fn edge_cost(w: &Words, placement: [u8; 16], e: Edge) -> u64
 }
 
 fn transfers_cost(w: &Words, placement: [u8; 16]) -> u64
-    ensures { λ r. ⌜ r ≡ sum (map (transferCost (describes (now (w .entry)))) (transfers (describes (now (w .entry))) placement)) ⌝ }
+    ensures { λ r. ⌜ r ≡ transferAmount (describes (now (w .entry))) placement ⌝ }
     ensures { λ r. ⌜ r ≤ 32 * 859032780 ⌝ }
 {
     let n = edge_count(w);
@@ -133,14 +131,14 @@ fn transfers_cost(w: &Words, placement: [u8; 16]) -> u64
     total
 }
 
-// The whole cost. No call needs it yet: Draw and List carry the cost down the walk, term by term. It says what those sums come to for one
-// placement, and is what a bill of a row by its parts will be made of (request A.1).
-pub fn cost(w: &Words, placement: [u8; 16]) -> u64
-    ensures { λ r. ⌜ r ≡ cost (describes (now (w .entry))) placement ⌝ }
-    ensures { λ r. ⌜ r < costLimit ⌝ }
+// The bill of one placement. The walk carries the sum of its amounts alone, term by term; a row that is answered is billed here.
+pub fn bill_of(w: &Words, placement: [u8; 16]) -> Bill
+    ensures { λ r. ⌜ r ≡ billOf (describes (now (w .entry))) placement ⌝ }
+    ensures { λ r. ⌜ total r < costLimit ⌝ }
 {
-    let storage = blocks_cost(Charge::Storage, w, placement);
-    let transfer = transfers_cost(w, placement);
-    let cpu = blocks_cost(Charge::Cpu, w, placement);
-    storage + transfer + cpu
+    Bill {
+        storage: blocks_cost(Charge::Storage, w, placement),
+        transfer: transfers_cost(w, placement),
+        cpu: blocks_cost(Charge::Cpu, w, placement),
+    }
 }

@@ -104,5 +104,9 @@ length-bound (suc k) n h = go (decLt n 10) (λ l. length-bound k (n / 10) (div-l
 pub fits-word : (n : ℕ) → n < 2 ^ 64 → length (decimal n) ≤ 20
 fits-word n h = length-bound 19 n (omega arith)
 
+pub fit-words : (a b c d : ℕ) → a < 2 ^ 64 → b < 2 ^ 64 → c < 2 ^ 64 → d < 2 ^ 64
+    → length (decimal a) + length (decimal b) + length (decimal c) + length (decimal d) ≤ 80
+fit-words a b c d h₁ h₂ h₃ h₄ = omega (arith, fits-word a h₁, fits-word b h₂, fits-word c h₃, fits-word d h₄)
+
 pub fits-byte : (n : ℕ) → n < 2 ^ 8 → length (decimal n) ≤ 3
 fits-byte n h = length-bound 2 n (omega arith)

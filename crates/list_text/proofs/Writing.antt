@@ -39,20 +39,33 @@ module _ (text buffer : List ℕ) (at : ℕ) (room : at + length text ≤ length
       ∙ ap (λ (k : ℕ). drop k buffer) e)
 
 -- a byte stored is a text of one byte
-one-byte : (buffer : List ℕ) (i b : ℕ) → i < length buffer → set buffer i b ≡ written (b ∷ []) buffer i
+pub one-byte : (buffer : List ℕ) (i b : ℕ) → i < length buffer → set buffer i b ≡ written (b ∷ []) buffer i
 one-byte buffer i b h =
     set-split buffer i b h ∙ sym (append-snoc (take i buffer) b (drop (suc i) buffer))
     ∙ ap (λ (n : ℕ). take i buffer ++ (b ∷ []) ++ drop n buffer) (sym (add-one i))
 
 -- the same of a buffer into which the first text was written before
-module _ (text first buffer : List ℕ) (at i : ℕ) (e : buffer ≡ written text first at) (here : i ≡ at + length text) where
-  pub then-text : (more : List ℕ) → i ≤ length first → written more buffer i ≡ written (text ++ more) first at
-  then-text more room = ap₂ (written more) e here ∙ behind text first at (omega arith) more
+pub then-text : (text first buffer : List ℕ) (at i : ℕ) → buffer ≡ written text first at → i ≡ at + length text
+    → (more : List ℕ) → i ≤ length first → written more buffer i ≡ written (text ++ more) first at
+then-text text first buffer at i e here more room = ap₂ (written more) e here ∙ behind text first at (omega arith) more
 
-  pub then-byte : (b : ℕ) → i < length first → set buffer i b ≡ written (text ++ (b ∷ [])) first at
+-- A text stands in the buffer from `at` up to `end`, where the next one can go.
+pub record Put (text first buffer : List ℕ) (at end : ℕ) : Type 0 where
+  pub ends : end ≡ at + length text
+  pub bytes : buffer ≡ written text first at
+
+module _ {text first buffer : List ℕ} {at end : ℕ} (p : Put text first buffer at end) where
+  pub then-put : {last : List ℕ} {stop : ℕ} (more : List ℕ) → end ≤ length first → stop ≡ end + length more → last ≡ written more buffer end
+      → Put (text ++ more) first last at stop
+  then-put more room e f = record {
+    ends = omega (arith, length-append text more, p .ends);
+    bytes = f ∙ then-text text first buffer at end (p .bytes) (p .ends) more room;
+  }
+
+  pub then-byte : (b : ℕ) → end < length first → Put (text ++ (b ∷ [])) first (set buffer end b) at (end + 1)
   then-byte b room =
-      let l : length buffer ≡ length first = ap length e ∙ written-length text first at (omega arith) in
-      one-byte buffer i b (omega arith) ∙ then-text (b ∷ []) (omega arith)
+      let l : length buffer ≡ length first = ap length (p .bytes) ∙ written-length text first at (omega (arith, p .ends)) in
+      then-put (b ∷ []) (omega arith) refl (one-byte buffer end b (omega arith))
 
 -- A text is written from its last byte to its first: `rest` is still to be written, and the bytes behind it stand where they belong.
 pub record Filling (text rest first buffer : List ℕ) (at : ℕ) : Type 0 where

@@ -26,9 +26,14 @@ digits (suc places) n = elim (ltb n 10) [ true ↦ digit n ∷ [] | false ↦ di
 unfoldable pub decimal : ℕ → List ℕ
 decimal n = digits (suc n) n
 
--- a row: its cost, and the cloud of each block
-abbrev pub rowLine : (cost : ℕ) (placement : List ℕ) (blocks : ℕ) → List ℕ
-rowLine cost placement blocks = decimal cost ++ ascii " " ++ map digit (take blocks placement) ++ ascii "\n"
+-- an amount behind other text
+abbrev pub amountText : ℕ → List ℕ
+amountText n = ascii " " ++ decimal n
+
+-- a row: its cost, the cloud of each block, and what storage, transfers and computing come to
+abbrev pub rowLine : (cost : ℕ) (placement : List ℕ) (blocks storage transfer cpu : ℕ) → List ℕ
+rowLine cost placement blocks storage transfer cpu =
+    decimal cost ++ ascii " " ++ map digit (take blocks placement) ++ amountText storage ++ amountText transfer ++ amountText cpu ++ ascii "\n"
 
 -- the last line: how many options there are
 abbrev pub optionsLine : ℕ → List ℕ

@@ -5,7 +5,7 @@ use mathlib.Core.Path.{_≡_}
 use mathlib.Core.List.{List, [], _∷_}
 use lib.ListN.{length, getD}
 use Rattle.list_text.specs.Lines.{ascii, digit, decimal, rowLine, optionsLine, refusalLine}
-use Rattle.list_text.specs.RowLines.{wordsLine, linesOf}
+use Rattle.list_text.specs.RowLines.{bytesOfLine, wordsLine, linesOf}
 
 -- the number that digits stand for, behind digits that stand for `front`
 abbrev pub valueAfter : ℕ → List ℕ → ℕ
@@ -27,22 +27,25 @@ pub record Sized (line : List ℕ) (most : ℕ) : Type 0 where
   pub few : length line ≤ most
 
 pub record Sizes : Type 0 where
-  pub row : (cost : ℕ) (placement : List ℕ) (blocks : ℕ) → cost < 2 ^ 64 → length placement ≡ 16 → Sized (rowLine cost placement blocks) 38
+  pub row : (cost : ℕ) (placement : List ℕ) (blocks storage transfer cpu : ℕ) → length placement ≡ 16 → cost < 2 ^ 64 → storage < 2 ^ 64
+      → transfer < 2 ^ 64 → cpu < 2 ^ 64 → Sized (rowLine cost placement blocks storage transfer cpu) bytesOfLine
   pub options : (count : ℕ) → count < 2 ^ 64 → Sized (optionsLine count) 29
   pub refusal : (number place : ℕ) → number < 2 ^ 8 → place < 2 ^ 64 → Sized (refusalLine number place) 33
 
 pub record RowLines : Type 0 where
-  pub line : (blocks cost place : ℕ) → blocks ≤ 16 → cost < 2 ^ 64 → Sized (wordsLine blocks cost place) 38
+  pub line : (blocks cost place storage transfer cpu : ℕ) → blocks ≤ 16 → cost < 2 ^ 64 → storage < 2 ^ 64 → transfer < 2 ^ 64 → cpu < 2 ^ 64
+      → Sized (wordsLine blocks cost place storage transfer cpu) bytesOfLine
 
 pub record Examples : Type 0 where
   pub zero : decimal 0 ≡ ascii "0"
   pub nine : decimal 9 ≡ ascii "9"
   pub ten : decimal 10 ≡ ascii "10"
   pub largest : decimal (2 ^ 64 - 1) ≡ ascii "18446744073709551615"
-  pub row : rowLine 2820 (1 ∷ 1 ∷ 1 ∷ 1 ∷ 1 ∷ 0 ∷ 0 ∷ 0 ∷ 0 ∷ 0 ∷ 0 ∷ 0 ∷ 0 ∷ 0 ∷ 0 ∷ 0 ∷ []) 5 ≡ ascii "2820 11111\n"
-  pub nextRow : rowLine 2840 (1 ∷ 1 ∷ 1 ∷ 1 ∷ 0 ∷ 0 ∷ 0 ∷ 0 ∷ 0 ∷ 0 ∷ 0 ∷ 0 ∷ 0 ∷ 0 ∷ 0 ∷ 0 ∷ []) 5 ≡ ascii "2840 11110\n"
-  -- the same two rows as words; a word alone behind them is no row
-  pub rows : linesOf 5 (2820 ∷ 4681 ∷ 2840 ∷ 4680 ∷ 2860 ∷ []) ≡ ascii "2820 11111\n2840 11110\n"
+  pub row : rowLine 2820 (1 ∷ 1 ∷ 1 ∷ 1 ∷ 1 ∷ 0 ∷ 0 ∷ 0 ∷ 0 ∷ 0 ∷ 0 ∷ 0 ∷ 0 ∷ 0 ∷ 0 ∷ 0 ∷ []) 5 1320 0 1500 ≡ ascii "2820 11111 1320 0 1500\n"
+  pub nextRow : rowLine 2840 (1 ∷ 1 ∷ 1 ∷ 1 ∷ 0 ∷ 0 ∷ 0 ∷ 0 ∷ 0 ∷ 0 ∷ 0 ∷ 0 ∷ 0 ∷ 0 ∷ 0 ∷ 0 ∷ []) 5 1320 20 1500 ≡ ascii "2840 11110 1320 20 1500\n"
+  -- the same two rows as words; four words behind them are no row
+  pub rows : linesOf 5 (2820 ∷ 4681 ∷ 1320 ∷ 0 ∷ 1500 ∷ 2840 ∷ 4680 ∷ 1320 ∷ 20 ∷ 1500 ∷ 2860 ∷ 4679 ∷ 1320 ∷ 40 ∷ [])
+      ≡ ascii "2820 11111 1320 0 1500\n2840 11110 1320 20 1500\n"
   pub options : optionsLine 6 ≡ ascii "options 6\n"
   pub refusal : refusalLine 14 0 ≡ ascii "refused 14 0\n"
   -- the bytes of two texts, written out

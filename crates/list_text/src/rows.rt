@@ -4,9 +4,15 @@ ghost use mathlib.Core.List.{map};
 ghost use Prim.Native.Nat.{_+_, _≤_, min};
 ghost use lib.ListN.{length};
 ghost use Rattle.packing.specs.Packing.{digits as clouds};
-ghost use Rattle.list_text.specs.Lines.{digit, decimal, written};
-ghost use Rattle.list_text.specs.RowLines.{wordsLine, rowsText};
+ghost use Rattle.list_text.specs.Lines.{digit, decimal, amountText, written};
+ghost use Rattle.list_text.specs.RowLines.{wordsLine, frontText, rowsText};
 use crate::last_digit;
+
+// The words of a row.
+const ROW_WORDS: usize = 5;
+
+// The most bytes of its line.
+const LINE_BYTES: usize = 101;
 
 // How many digits a number has in decimal.
 fn places(n: u64) -> usize
@@ -21,13 +27,13 @@ fn places(n: u64) -> usize
     count
 }
 
-// The digits of a cost from offset `at` on. Division gives the last one first, so it has to be known how many there are.
-fn put_cost(cost: u64, count: usize, buffer: &mut [u8], at: usize)
-    requires { ⌜ (count ≡ length (decimal cost)) × (at + count ≤ length (now buffer)) ⌝ }
-    ensures { λ _. ⌜ now (buffer .exit) ≡ written (decimal cost) (now (buffer .entry)) at ⌝ }
+// The digits of a number from offset `at` on. Division gives the last one first, so it has to be known how many there are.
+fn put_digits(n: u64, count: usize, buffer: &mut [u8], at: usize)
+    requires { ⌜ (count ≡ length (decimal n)) × (at + count ≤ length (now buffer)) ⌝ }
+    ensures { λ _. ⌜ now (buffer .exit) ≡ written (decimal n) (now (buffer .entry)) at ⌝ }
 {
     let mut end = at + count;
-    let mut left = cost;
+    let mut left = n;
     while 10 <= left {
         end -= 1;
         buffer[end] = last_digit(left);
@@ -50,27 +56,65 @@ fn put_clouds(place: u64, blocks: usize, buffer: &mut [u8], at: usize)
     }
 }
 
+// Each of these puts a part of a line, or all of it, from offset `at` on, and answers the offset behind it.
+
+fn put_number(n: u64, buffer: &mut [u8], at: usize) -> usize
+    requires { ⌜ at + length (decimal n) ≤ length (now buffer) ⌝ }
+    ensures { λ r. ⌜ r ≡ at + length (decimal n) ⌝ }
+    ensures { λ _. ⌜ now (buffer .exit) ≡ written (decimal n) (now (buffer .entry)) at ⌝ }
+{
+    let count = places(n);
+    put_digits(n, count, buffer, at);
+    at + count
+}
+
+fn put_amount(amount: u64, buffer: &mut [u8], at: usize) -> usize
+    requires { ⌜ at + length (amountText amount) ≤ length (now buffer) ⌝ }
+    ensures { λ r. ⌜ r ≡ at + length (amountText amount) ⌝ }
+    ensures { λ _. ⌜ now (buffer .exit) ≡ written (amountText amount) (now (buffer .entry)) at ⌝ }
+{
+    buffer[at] = b' ';
+    put_number(amount, buffer, at + 1)
+}
+
+fn put_front(cost: u64, place: u64, blocks: usize, buffer: &mut [u8], at: usize) -> usize
+    requires { ⌜ at + length (decimal cost) + blocks + 1 ≤ length (now buffer) ⌝ }
+    ensures { λ r. ⌜ r ≡ at + length (decimal cost) + blocks + 1 ⌝ }
+    ensures { λ _. ⌜ now (buffer .exit) ≡ written (frontText blocks cost place) (now (buffer .entry)) at ⌝ }
+{
+    let space = put_number(cost, buffer, at);
+    buffer[space] = b' ';
+    put_clouds(place, blocks, buffer, space + 1);
+    space + 1 + blocks
+}
+
+fn put_line(
+    cost: u64,
+    place: u64,
+    storage: u64,
+    transfer: u64,
+    cpu: u64,
+    blocks: usize,
+    buffer: &mut [u8],
+    at: usize,
+) -> usize
+    requires { ⌜ at + length (decimal cost) + blocks + length (decimal storage) + length (decimal transfer) + length (decimal cpu) + 5 ≤ length (now buffer) ⌝ }
+    ensures { λ r. ⌜ r ≡ at + length (wordsLine blocks cost place storage transfer cpu) ⌝ }
+    ensures { λ _. ⌜ now (buffer .exit) ≡ written (wordsLine blocks cost place storage transfer cpu) (now (buffer .entry)) at ⌝ }
+{
+    let front = put_front(cost, place, blocks, buffer, at);
+    let stored = put_amount(storage, buffer, front);
+    let moved = put_amount(transfer, buffer, stored);
+    let newline = put_amount(cpu, buffer, moved);
+    buffer[newline] = b'\n';
+    newline + 1
+}
+
 // How many of the sixteen positions count.
 fn positions(blocks: usize) -> usize
     ensures { λ r. ⌜ r ≡ min blocks 16 ⌝ }
 {
     if blocks < 16 { blocks } else { 16 }
-}
-
-// The line of a row from offset `at` on. The answer is the offset behind it.
-fn put_line(cost: u64, place: u64, blocks: usize, buffer: &mut [u8], at: usize) -> usize
-    requires { ⌜ (blocks ≤ 16) × (at + 38 ≤ length (now buffer)) ⌝ }
-    ensures { λ r. ⌜ r ≡ at + length (wordsLine blocks cost place) ⌝ }
-    ensures { λ r. ⌜ now (buffer .exit) ≡ written (wordsLine blocks cost place) (now (buffer .entry)) at ⌝ }
-{
-    let count = places(cost);
-    put_cost(cost, count, buffer, at);
-    let space = at + count;
-    buffer[space] = b' ';
-    put_clouds(place, blocks, buffer, space + 1);
-    let newline = space + 1 + blocks;
-    buffer[newline] = b'\n';
-    newline + 1
 }
 
 fn smaller(m: usize, n: usize) -> usize
@@ -79,20 +123,29 @@ fn smaller(m: usize, n: usize) -> usize
     if m < n { m } else { n }
 }
 
-// Row k is words 2k and 2k + 1: its cost, and its placement as a packed number. The lines of the rows go to the start of the buffer, as many
-// as surely fit at 38 bytes a line, and what stands behind them stays. The answer is the offset behind the last line. It takes any arguments:
-// a last word alone is no row, and above 16 blocks there are no more digits.
+// Row k is the five words from 5k on: its cost, its placement as a packed number, and what storage, transfers and computing come to. The lines
+// of the rows go to the start of the buffer, as many as surely fit at LINE_BYTES a line, and what stands behind them stays. The answer is the
+// offset behind the last line. It takes any arguments: fewer than five words at the end are no row, and above 16 blocks there are no more digits.
 pub fn put_rows(words: &[u64], blocks: usize, buffer: &mut [u8]) -> usize
     ensures { λ r. ⌜ r ≡ length (rowsText (now (words .entry)) blocks (now (buffer .entry))) ⌝ }
     ensures { λ r. ⌜ now (buffer .exit) ≡ written (rowsText (now (words .entry)) blocks (now (buffer .entry))) (now (buffer .entry)) 0 ⌝ }
 {
     let digits = positions(blocks);
-    let stop = smaller(words.len() / 2, buffer.len() / 38);
+    let stop = smaller(words.len() / ROW_WORDS, buffer.len() / LINE_BYTES);
     let mut next = 0;
     let mut end = 0;
     while next < stop {
-        let word = next * 2;
-        end = put_line(words[word], words[word + 1], digits, buffer, end);
+        let word = next * ROW_WORDS;
+        end = put_line(
+            words[word],
+            words[word + 1],
+            words[word + 2],
+            words[word + 3],
+            words[word + 4],
+            digits,
+            buffer,
+            end,
+        );
         next += 1;
     }
     end

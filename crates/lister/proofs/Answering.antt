@@ -1,32 +1,37 @@
 -- Draws in a row answer the rows one by one and then finished.
 use Prim.Native.Nat.{ℕ}
-use native.Mathlib.Nat.{le-refl}
 use mathlib.Core.Path.{_≡_, refl, sym, ap, _∙_}
 use mathlib.Core.Bool.{Bool, true, false, _||_}
-use mathlib.Core.List.{_++_, map}
-use mathlib.Core.Option.{none, some}
+use mathlib.Core.List.{List, _∷_, _++_, map}
+use mathlib.Core.Option.{Option, none, some}
 use lib.ListN.{take, replicate}
 use Rattle.description.specs.Format.{Description}
+use Rattle.costs.specs.Cost.{cost}
 use Rattle.survey.specs.declared.Row.{Row}
-use Rattle.survey.specs.Rows.{earlier, rows, later, draw}
-use Rattle.survey.proofs.RowOrder.{earlier-order}
-use Rattle.survey.proofs.Drawing.{unsorted, unsorted-once, rows-sorted, draw-least}
+use Rattle.survey.specs.declared.Cursor.{Cursor}
+use Rattle.survey.specs.Rows.{earlier, rowOf, rows, later, draw}
+use Rattle.survey.proofs.RowOrder.{placement-order}
+use Rattle.survey.proofs.Drawing.{standing, standing-once, rows-sorted, draw-finds}
 use Rattle.lister.specs.DrawsListEveryRow.{past, atStart, answers}
-use Rattle.sequences.specs.Draws.{Cursors}
-use Rattle.sequences.proofs.Draws.{draws-answer}
-
--- the cursors of rows
-cursors : Cursors earlier later past
-cursors = record { after = λ r s. refl; upward = λ c. upward (c .start) (record { cost = c .cost; placement = c .placement }) }
-  where
-    upward : (start : Bool) (last r s : Row) → (start || earlier last r) ≡ true → earlier r s ≡ true → (start || earlier last s) ≡ true
-    upward true last r s p q = refl
-    upward false last r s p q = earlier-order .transitive last r s p q
+use Rattle.sequences.specs.Draws.{moved, chained, Cursors}
+use Rattle.sequences.specs.Lists.{before}
+use Rattle.sequences.proofs.Mapped.{draws-answer-mapped}
+use Rattle.sequences.proofs.Orders.{before-order}
 
 module _ (d : Description) where
+  -- the cursors of placements' rows
+  cursors : Cursors (λ p q. earlier (rowOf d p) (rowOf d q)) (λ c p. later c (rowOf d p)) (λ p. past (rowOf d p))
+  cursors = record { after = λ p q. refl; upward = λ c. upward (c .start) (c .cost ∷ c .placement) }
+    where
+      upward : (start : Bool) (last p q : List ℕ) → (start || before last (cost d p ∷ p)) ≡ true → earlier (rowOf d p) (rowOf d q) ≡ true
+          → (start || before last (cost d q ∷ q)) ≡ true
+      upward true last p q t e = refl
+      upward false last p q t e = before-order .transitive last (cost d p ∷ p) (cost d q ∷ q) t e
+
   -- a draw answers the first of the sorted rows that is past its cursor
   pub answers-rows : (n : ℕ) → answers d n ≡ take n (map some (rows d) ++ replicate n none)
   unfolding answers
   answers-rows n =
-      draws-answer earlier-order cursors (draw d) (unsorted d) (draw-least d) (unsorted-once d) atStart (λ r. refl) n n (le-refl n) ∙
+      ap (λ (one : Cursor → Option Row). chained one (moved past) atStart n) (λ i c. draw-finds d c i) ∙
+      draws-answer-mapped (rowOf d) earlier (placement-order d) later past cursors (standing d) (standing-once d) atStart (λ p. refl) n ∙
       ap (λ l. take n (map some l ++ replicate n none)) (sym (rows-sorted d))

@@ -8,7 +8,6 @@ use mathlib.Core.Option.{none, some, Option·some-ne-none}
 use lib.ListN.{take, replicate}
 use Rattle.description.specs.Format.{Description}
 use Rattle.security.specs.Soundness.{read}
-use Rattle.costs.specs.Cost.{cost}
 use Rattle.security.proofs.Accepted.{read-wellFormed}
 use Rattle.security.proofs.Candidates.{candidates-secure}
 use Rattle.options.proofs.Options.{sameOption-equivalence}
@@ -17,6 +16,7 @@ use Rattle.survey.specs.declared.Cursor.{Cursor}
 use Rattle.survey.specs.Rows.{securePlacements, census, rowOf, rows, draw}
 use Rattle.lister.specs.Calls.{censusCall, drawCall}
 use Rattle.lister.specs.DrawsListEveryRow.{atStart, past, answers, movedBy, results, SecurePlacement, RowFor, DrawsListEveryRow}
+use Rattle.survey.proofs.Billing.{row-billed, row-adds-up}
 use Rattle.survey.proofs.Counting.{census-sum, options-number}
 use Rattle.survey.proofs.Drawing.{rows-rise, rows-standing}
 use Rattle.lister.proofs.Answering.{answers-rows}
@@ -67,9 +67,6 @@ module _ (s : List ℕ) (d : Description) (accepted : read s ≡ ok d) where
   row-secure : (r : Row) → List·Memᴰ r (rows d) → SecurePlacement d (r .placement)
   row-secure r m = let (p, i, t, e) = rows-standing d r .0 m in rw (← e) (secure-are p .0 i)
 
-  row-costs : (r : Row) → List·Memᴰ r (rows d) → r .cost ≡ cost d (r .placement)
-  row-costs r m = let (p, i, t, e) = rows-standing d r .0 m in rw (← e) refl
-
   -- each secure placement has its row: that of the placement that stands for its option
   row-for : (p : List ℕ) → SecurePlacement d p → (r : Row) × RowFor d p r
   row-for p secure =
@@ -108,7 +105,7 @@ module _ (s : List ℕ) (d : Description) (accepted : read s ≡ ok d) where
     drawn = answers-rows d;
     rising = rows-rise d;
     secure = row-secure;
-    costs = row-costs;
+    costs = λ r m. (row-billed d r m, row-adds-up d r m);
     represented = row-for;
     finished = none-secure;
     counted = census-called;

@@ -9,7 +9,7 @@ use mathlib.Core.Option.{Option, none, some}
 use lib.ListN.{length, take, replicate}
 use Rattle.description.specs.Format.{Description}
 use Rattle.security.specs.Placements.{judge}
-use Rattle.costs.specs.Cost.{cost}
+use Rattle.costs.specs.Cost.{billOf, total}
 use Rattle.options.specs.Options.{sameOption}
 use Rattle.survey.specs.declared.Row.{Row}
 use Rattle.survey.specs.declared.Cursor.{Cursor}
@@ -65,9 +65,9 @@ pub record DrawsListEveryRow (s : List ℕ) (d : Description) : Type 0 where
   pub drawn : (n : ℕ) → answers d n ≡ take n (map some (rows d) ++ replicate n none)
   -- the rows rise strictly by cost and then bytes
   pub rising : Ascending earlier (rows d)
-  -- each row's placement is secure, and its cost is the cost of that placement
+  -- each row's placement is secure; the three amounts of its bill are those of that placement, and its cost is their sum
   pub secure : (r : Row) → List·Memᴰ r (rows d) → SecurePlacement d (r .placement)
-  pub costs : (r : Row) → List·Memᴰ r (rows d) → r .cost ≡ cost d (r .placement)
+  pub costs : (r : Row) → List·Memᴰ r (rows d) → (r .bill ≡ billOf d (r .placement)) × (r .cost ≡ total (r .bill))
   -- every secure placement is the same option as exactly one row's, and is that placement or strictly later than it
   pub represented : (p : List ℕ) → SecurePlacement d p → (r : Row) × RowFor d p r
   -- the first answer is finished exactly when no placement is secure

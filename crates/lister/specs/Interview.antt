@@ -16,15 +16,16 @@ use Rattle.survey.specs.Rows.{rows}
 use Rattle.lister.specs.Calls.{censusCall, drawCall}
 use Rattle.sequences.specs.Results.{Result, ok, refused, andThen}
 
--- a row, by its cost and its placement
-abbrev pub row : ℕ → List ℕ → Row
-row cost placement = record { cost = cost; placement = placement }
+-- a row, by its cost, its placement and the three amounts of its bill
+abbrev pub row : ℕ → List ℕ → (storage transfer cpu : ℕ) → Row
+row cost placement storage transfer cpu =
+    record { cost = cost; placement = placement; bill = record { storage = storage; transfer = transfer; cpu = cpu } }
 
 -- M's six rows
 abbrev pub rowsOfM : List Row
 rowsOfM =
-    row 2820 (place 1 1 1 1 1) ∷ row 2840 (place 1 1 1 1 0) ∷ row 2920 (place 1 1 0 0 0) ∷
-    row 2940 (place 1 1 0 0 1) ∷ row 3020 (place 1 1 0 1 1) ∷ row 3040 (place 1 1 0 1 0) ∷ []
+    row 2820 (place 1 1 1 1 1) 1320 0 1500 ∷ row 2840 (place 1 1 1 1 0) 1320 20 1500 ∷ row 2920 (place 1 1 0 0 0) 1320 100 1500 ∷
+    row 2940 (place 1 1 0 0 1) 1320 120 1500 ∷ row 3020 (place 1 1 0 1 1) 1320 200 1500 ∷ row 3040 (place 1 1 0 1 0) 1320 220 1500 ∷ []
 
 -- one cloud at level 0 with one datum at level 1
 abbrev pub homeless : List ℕ

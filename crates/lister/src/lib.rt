@@ -7,6 +7,7 @@ ghost use Rattle.sequences.specs.Results.{ok};
 
 pub mod chain;
 
+use costs::answers::Bill;
 use description::words::WORDS;
 use description::workflow::Refusal;
 use judging::acceptance::accept;
@@ -71,6 +72,11 @@ fn refused(r: Refusal) -> Drawn
         row: Row {
             cost: 0,
             placement: [0u8; 16],
+            bill: Bill {
+                storage: 0,
+                transfer: 0,
+                cpu: 0,
+            },
         },
     }
 }

@@ -1,11 +1,13 @@
--- What the program makes is what is printed: the lines of the words that List leaves are the rows' lines, and the last line stands behind
--- them; of what is refused there is the last line alone.
-use Prim.Native.Nat.{ℕ, zero, suc, _+_, _-_, _*_, _/_, _^_, _≤_, _<_, min}
+-- What the program writes is what is printed: the pages of the rows that List leaves are their lines, one behind the other, and with the last
+-- line they are `printed`.
+use Prim.Native.Nat.{ℕ, zero, suc, _+_, _-_, _*_, _/_, _≤_, _<_, min}
+use native.Mathlib.Decide.{decLt}
 use native.Mathlib.Omega.{arith}
 use mathlib.Core.Path.{_≡_, refl, sym, ap, ap₂, _∙_}
-use mathlib.Core.List.{List, [], _∷_, _++_, map, List·Memᴰ, List·Memᴰ·head, List·Memᴰ·tail}
-use lib.ListN.{length, getD, take, drop, replicate, length-append, length-take, length-map}
-use lib.Seq.{take-at, take-all, take-nil}
+use mathlib.Core.List.{List, [], _∷_, _++_, map, append-nil, List·Memᴰ, List·Memᴰ·head, List·Memᴰ·tail}
+use lib.ListN.{length, take, drop, replicate, length-append, length-take, length-drop}
+use lib.Seq.{take-at, take-all, drop-drop}
+use Rattle.sequences.specs.Lists.{from, below, joined}
 use Rattle.sequences.specs.Results.{Result, ok, refused}
 use Rattle.description.specs.Bytes.{Bytes, decidingBytes}
 use Rattle.description.specs.Format.{Description}
@@ -14,121 +16,164 @@ use Rattle.security.specs.Soundness.{read}
 use Rattle.security.proofs.Accepted.{read-admitted, read-front}
 use Rattle.packing.specs.Packing.{digits as clouds}
 use Rattle.packing.proofs.Digits.{digits-length}
-use Rattle.sorting.specs.Rows.{flat}
-use Rattle.sorting.proofs.Rows.{flat-none, flat-more, length-flat}
 use Rattle.survey.specs.declared.Row.{Row}
 use Rattle.survey.specs.Rows.{rows}
-use Rattle.whole_list.specs.WholeList.{listed, listCall, rowsAfter}
-use Rattle.survey.specs.RowWords.{rowWords, needed}
-use Rattle.whole_list.proofs.Answers.{call-goes, rows-go, fitting as rowsFit, fits-room}
-use Rattle.whole_list.proofs.Sorted.{listed-words}
+use Rattle.survey.specs.RowWords.{rowKey}
 use Rattle.survey.proofs.RowsInWords.{rows-few, words-row}
-use Rattle.list_text.specs.Lines.{ascii, digit, decimal, rowLine, optionsLine, refusalLine, written}
-use Rattle.list_text.specs.RowLines.{wordsLine, linesOf, fitting, rowsText}
-use Rattle.list_text.proofs.RowLines.{words-line, lines-few}
-use Rattle.list_text.proofs.Writing.{then-text}
+use Rattle.whole_list.specs.WholeList.{rowWords, listed, needed, capacity, listCall, rowsAfter}
+use Rattle.whole_list.proofs.Answers.{call-goes, rows-go, fitting as rowsFit, fits-room}
+use Rattle.whole_list.proofs.Sorted.{listed-words, listed-length}
+use Rattle.list_text.specs.Lines.{ascii, digit, decimal, amountText, rowLine, optionsLine, refusalLine, written}
+use Rattle.list_text.specs.RowLines.{wordsLine, linesOf, rowsText}
+use Rattle.list_text.proofs.RowLines.{words-line, taken-apart}
 use Rattle.listoptions.specs.Printed.{rowLines, printedFor, printed}
-use Rattle.listoptions.specs.Making.{heldWords, heldBytes, rowsOf, blocksOf, lastLine}
+use Rattle.listoptions.specs.Making.{heldWords, heldKeys, heldBytes, pageRows, rowsOf, blocksOf, linesIn, pageText, lastLine}
 
--- words stay below a bound when some are left out
-taken-below : (m k : ℕ) (l : List ℕ) → ((i : ℕ) → getD l i 0 < m) → (i : ℕ) → getD (take k l) i 0 < m
-taken-below m zero l h i = omega (arith, h 0)
-taken-below m (suc k) [] h i = h i
-taken-below m (suc k) (x ∷ l) h zero = h zero
-taken-below m (suc k) (x ∷ l) h (suc i) = taken-below m k l (λ j. h (suc j)) i
+-- ---- pages
+
+-- fewer than five words are no row
+no-row : (b : ℕ) (l : List ℕ) → length l < 5 → linesOf b l ≡ []
+no-row b [] h = refl
+no-row b (u ∷ []) h = refl
+no-row b (u ∷ v ∷ []) h = refl
+no-row b (u ∷ v ∷ w ∷ []) h = refl
+no-row b (u ∷ v ∷ w ∷ x ∷ []) h = refl
+no-row b (u ∷ v ∷ w ∷ x ∷ y ∷ l) h = absurd (omega arith)
+
+-- a page has the lines of as many rows as there are, up to its own number
+up-to : (b m : ℕ) (l : List ℕ) → linesOf b (take (min (length l / 5) m * 5) l) ≡ linesOf b (take (m * 5) l)
+up-to b m l = elim (decLt (length l / 5) m) [
+  | yes h ↦
+      let n = length l / 5 in
+      let more = drop (n * 5) l in
+      let e : min n m * 5 ≡ n * 5 = omega arith in
+      let f : m * 5 ≡ (n + (m - n)) * 5 = omega arith in
+      let none = no-row b (take ((m - n) * 5) more) (omega (arith, length-take ((m - n) * 5) more, length-drop (n * 5) l)) in
+      ap (λ (k : ℕ). linesOf b (take k l)) e ∙
+      sym (ap (λ (k : ℕ). linesOf b (take k l)) f ∙ taken-apart b n (m - n) l ∙ ap (λ r. linesOf b (take (n * 5) l) ++ r) none ∙ append-nil (linesOf b (take (n * 5) l)))
+  | no h ↦ let e : min (length l / 5) m * 5 ≡ m * 5 = omega arith in ap (λ (k : ℕ). linesOf b (take k l)) e
+]
+
+-- what goes into a page's bytes is the page
+pub page-made : (blocks k : ℕ) (words text : List ℕ) → length text ≡ heldBytes → rowsText (drop (k * pageRows * 5) words) blocks text ≡ pageText blocks words k
+page-made blocks k words text h =
+    let l = drop (k * pageRows * 5) words in
+    let e : length text / 101 ≡ pageRows = omega arith in
+    ap (λ (m : ℕ). linesIn blocks (take (min (length l / 5) m * 5) l)) e ∙ up-to (min blocks 16) pageRows l
+
+-- one page more
+pub next-page : (blocks k : ℕ) (words : List ℕ)
+    → linesIn blocks (take ((k + 1) * pageRows * 5) words) ≡ linesIn blocks (take (k * pageRows * 5) words) ++ pageText blocks words k
+next-page blocks k words =
+    let e : (k + 1) * pageRows * 5 ≡ (k * pageRows + pageRows) * 5 = omega arith in
+    ap (λ (n : ℕ). linesIn blocks (take n words)) e ∙ taken-apart (min blocks 16) (k * pageRows) pageRows words
+
+-- THE PAGES TOGETHER ARE THE LINES of all rows, where there are enough of them
+pages-from : (blocks k n : ℕ) (words : List ℕ)
+    → joined (map (pageText blocks words) (from k n)) ≡ linesIn blocks (take (n * pageRows * 5) (drop (k * pageRows * 5) words))
+pages-from blocks k zero words = refl
+pages-from blocks k (suc n) words =
+    let l = drop (k * pageRows * 5) words in
+    let e : k * pageRows * 5 + pageRows * 5 ≡ suc k * pageRows * 5 = omega arith in
+    let f : (pageRows + n * pageRows) * 5 ≡ suc n * pageRows * 5 = omega arith in
+    ap (λ r. pageText blocks words k ++ r)
+    (pages-from blocks (suc k) n words ∙
+    ap (λ r. linesIn blocks (take (n * pageRows * 5) r)) (sym (drop-drop (pageRows * 5) (k * pageRows * 5) words ∙ ap (λ (m : ℕ). drop m words) e))) ∙
+    sym (taken-apart (min blocks 16) pageRows (n * pageRows) l) ∙ ap (λ (m : ℕ). linesIn blocks (take m l)) f
+
+pub pages-lines : (blocks n : ℕ) (words : List ℕ) → length words ≤ n * pageRows * 5 → joined (map (pageText blocks words) (below n)) ≡ linesIn blocks words
+pages-lines blocks n words h = pages-from blocks 0 n words ∙ ap (linesIn blocks) (take-all (n * pageRows * 5) words h)
+
+-- ---- the lines of a description's rows
+
+-- the line of a row, and of the words that it has in lent memory
+abbrev lineOf : (n : ℕ) → Row → List ℕ
+lineOf n r = rowLine (r .cost) (r .placement) n (r .bill .storage) (r .bill .transfer) (r .bill .cpu)
+
+abbrev keyLine : Description → (n : ℕ) → Row → List ℕ
+keyLine d n r = wordsLine n (rowKey d r .0) (rowKey d r .1) (r .bill .storage) (r .bill .transfer) (r .bill .cpu)
 
 -- the words of rows make the lines of the rows, where each row's words make its own
-lines-of-rows : (d : Description) (n : ℕ) (rs : List Row)
-    → ((r : Row) → List·Memᴰ r rs → wordsLine n (rowWords d r .0) (rowWords d r .1) ≡ rowLine (r .cost) (r .placement) n)
-    → linesOf n (flat (map (rowWords d) rs)) ≡ rowLines n rs
-lines-of-rows d n [] h = ap (linesOf n) flat-none
-lines-of-rows d n (r ∷ rs) h =
-    ap (linesOf n) (flat-more (rowWords d r) (map (rowWords d) rs)) ∙
-    ap₂ _++_ (h r (List·Memᴰ·head refl)) (lines-of-rows d n rs (λ x m. h x (List·Memᴰ·tail m)))
+lines-of-rows : (d : Description) (n : ℕ) (rs : List Row) → ((r : Row) → List·Memᴰ r rs → keyLine d n r ≡ lineOf n r)
+    → linesOf n (joined (map (rowWords d) rs)) ≡ rowLines n rs
+lines-of-rows d n [] h = refl
+lines-of-rows d n (r ∷ rs) h = ap₂ _++_ (h r (List·Memᴰ·head refl)) (lines-of-rows d n rs (λ x m. h x (List·Memᴰ·tail m)))
 
 module _ (d : Description) (a : Admitted d) where
   abbrev n : ℕ
   n = length (d .blocks)
 
   -- the blocks of a row are the clouds that its second word packs
-  row-line : (r : Row) → List·Memᴰ r (rows d) → wordsLine n (rowWords d r .0) (rowWords d r .1) ≡ rowLine (r .cost) (r .placement) n
+  row-line : (r : Row) → List·Memᴰ r (rows d) → keyLine d n r ≡ lineOf n r
   row-line r m =
-      let packed = clouds n (rowWords d r .1) in
-      let size = digits-length n (rowWords d r .1) in
+      let packed = clouds n (rowKey d r .1) in
+      let size = digits-length n (rowKey d r .1) in
+      let b = r .bill in
       let same : take n packed ≡ take n (r .placement) =
       take-all n packed (omega arith) ∙ sym (take-at packed (replicate (16 - n) 0) n size) ∙ ap (take n) (words-row d a r m) in
-      words-line n (rowWords d r .0) (rowWords d r .1) ∙ ap (λ l. decimal (r .cost) ++ ascii " " ++ map digit l ++ ascii "\n") same
+      words-line n (r .cost) (rowKey d r .1) (b .storage) (b .transfer) (b .cpu) ∙
+      ap (λ l. decimal (r .cost) ++ ascii " " ++ map digit l ++ amountText (b .storage) ++ amountText (b .transfer) ++ amountText (b .cpu) ++ ascii "\n") same
 
-  listed-length : length (listed d) ≡ needed d
-  listed-length = ap length (listed-words d) ∙ length-flat (map (rowWords d) (rows d)) ∙ ap (λ (k : ℕ). k * 2) (length-map (rows d) (rowWords d))
-
-  listed-lines : linesOf n (listed d) ≡ rowLines n (rows d)
-  listed-lines = ap (linesOf n) (listed-words d) ∙ lines-of-rows d n (rows d) row-line
-
-  few : length (rows d) ≤ 65536
-  few = omega (arith, rows-few d a, a .few)
-
-  -- all lines fit
-  pub listed-text : (words text : List ℕ) → length text ≡ heldBytes
-      → rowsText (take (length (rows d) * 2) (listed d ++ words)) n text ≡ rowLines n (rows d)
-  listed-text words text h =
-      let fit : min (length (listed d) / 2) (length text / 38) * 2 ≡ length (listed d) = omega (arith, listed-length, few) in
+  listed-lines : linesIn n (listed d) ≡ rowLines n (rows d)
+  listed-lines =
       let sixteen : min n 16 ≡ n = omega (arith, a .wellFormed .limits .blocks) in
-      ap (λ w. rowsText w n text) (take-at (listed d) words (length (rows d) * 2) listed-length)
-      ∙ ap₂ (λ (b k : ℕ). linesOf b (take k (listed d))) sixteen fit
-      ∙ ap (linesOf n) (take-all (length (listed d)) (listed d) (omega arith)) ∙ listed-lines
+      ap (λ (b : ℕ). linesOf b (listed d)) sixteen ∙ ap (linesOf n) (listed-words d) ∙ lines-of-rows d n (rows d) row-line
 
--- the text that the rows' lines make, of what List answers and leaves
-abbrev pub rowsMade : Result (ℕ × ℕ) → (after text : List ℕ) → List ℕ
-rowsMade answer after text = rowsText (take (rowsOf answer * 2) after) (blocksOf answer) text
+-- ---- all of it
+
+-- room for as many rows as there can be candidates
+abbrev pub heldRows : ℕ
+heldRows = capacity heldWords heldKeys
+
+-- the words of the rows that are printed, of what List answers and leaves
+abbrev pub printedWords : Result (ℕ × ℕ) → List ℕ → List ℕ
+printedWords answer after = take (rowsOf answer * 5) after
 
 -- the rows that are printed are words that the call was lent
-pub rows-within : (s : List ℕ) (room : ℕ) (a : Result (ℕ × ℕ)) → a ≡ listCall s room → rowsOf a * 2 ≤ room
-rows-within s room (ok e) h = fits-room s room e (sym h)
-rows-within s room (refused number place) h = omega arith
+pub rows-within : (s : List ℕ) (a : Result (ℕ × ℕ)) → a ≡ listCall s heldRows → rowsOf a ≤ heldRows
+rows-within s (ok e) h = fits-room s heldRows e (sym h)
+rows-within s (refused number place) h = omega arith
 
--- room is left for the last line
-pub room-left : (answer : Result (ℕ × ℕ)) (after text : List ℕ) → rowsOf answer * 2 ≤ heldWords → length text ≡ heldBytes
-    → ((i : ℕ) → getD after i 0 < 2 ^ 64) → length (rowsMade answer after text) + 64 ≤ length text
-room-left answer after text few h words =
-    let w = take (rowsOf answer * 2) after in
-    let k = fitting w text * 2 in
-    let below = taken-below (2 ^ 64) k w (taken-below (2 ^ 64) (rowsOf answer * 2) after words) in
-    let lines = lines-few (min (blocksOf answer) 16) (take k w) (omega arith) below in
-    omega (arith, lines, length-take k w, length-take (rowsOf answer * 2) after)
-
--- THE LINES AND THE LAST ONE ARE WHAT IS PRINTED
-pub made : (s words text : List ℕ) → Bytes s → length text ≡ heldBytes
-    → rowsMade (listCall s heldWords) (rowsAfter s heldWords words) text ++ lastLine (listCall s heldWords) ≡ printed s
+-- THEIR LINES AND THE LAST ONE ARE WHAT IS PRINTED
+pub lines-printed : (s words : List ℕ) → Bytes s
+    → linesIn (blocksOf (listCall s heldRows)) (printedWords (listCall s heldRows) (rowsAfter s heldRows words)) ++ lastLine (listCall s heldRows) ≡ printed s
 unfolding printed
-made s words text bytes h = go (read s) refl
+lines-printed s words bytes = go (read s) refl
   where
-    go : (x : Result Description) → read s ≡ x
-        → rowsMade (listCall s heldWords) (rowsAfter s heldWords words) text ++ lastLine (listCall s heldWords) ≡ printedFor x
+    text : Result (ℕ × ℕ) → List ℕ → List ℕ
+    text answer after = linesIn (blocksOf answer) (printedWords answer after) ++ lastLine answer
+
+    go : (x : Result Description) → read s ≡ x → text (listCall s heldRows) (rowsAfter s heldRows words) ≡ printedFor x
     go (ok d) e =
         let a = read-admitted s d e bytes in
-        let l = rowsFit d heldWords (omega (arith, few d a)) in
-        ap₂ (λ x w. rowsMade x w text ++ lastLine x) (call-goes s heldWords e ∙ l .answers) (rows-go s heldWords e words ∙ l .rows words)
-        ∙ ap (λ t. t ++ optionsLine (length (rows d))) (listed-text d a (drop (needed d) words) text h)
-    go (refused number place) e =
-        ap₂ (λ x w. rowsMade x w text ++ lastLine x) (call-goes s heldWords e) (rows-go s heldWords e words)
-        ∙ ap (λ w. linesOf (min 0 16) w ++ refusalLine number place) (take-nil (fitting [] text * 2))
+        let l = rowsFit d heldRows (omega (arith, rows-few d a, a .few)) in
+        let beyond = drop (length (listed d)) words in
+        ap₂ text (call-goes s heldRows e ∙ l .answers) (rows-go s heldRows e words ∙ l .rows words) ∙
+        ap (λ w. linesIn (length (d .blocks)) w ++ optionsLine (length (rows d))) (take-at (listed d) beyond (needed d) (listed-length d)) ∙
+        ap (λ t. t ++ optionsLine (length (rows d))) (listed-lines d a)
+    go (refused number place) e = ap₂ text (call-goes s heldRows e) (rows-go s heldRows e words)
 
--- so the last line, put behind the rows' lines, makes all of it
-pub all-made : (s words text : List ℕ) → Bytes s → length text ≡ heldBytes → {answer : Result (ℕ × ℕ)} {after made₁ made₂ : List ℕ} {end₁ end₂ : ℕ}
-    → answer ≡ listCall s heldWords → after ≡ rowsAfter s heldWords words → ((i : ℕ) → getD after i 0 < 2 ^ 64)
-    → end₁ ≡ length (rowsMade answer after text) → made₁ ≡ written (rowsMade answer after text) text 0
-    → end₂ ≡ end₁ + length (lastLine answer) → made₂ ≡ written (lastLine answer) made₁ end₁
-    → (end₂ ≡ length (printed s)) × (made₂ ≡ written (printed s) text 0)
-all-made s words text bytes h {answer} {after} {made₁} {made₂} {end₁} {end₂} e f w n₁ m₁ n₂ m₂ =
-    let rows-text = rowsMade answer after text in
-    let all : rows-text ++ lastLine answer ≡ printed s = ap₂ (λ x l. rowsMade x l text ++ lastLine x) e f ∙ made s words text bytes h in
-    let room = room-left answer after text (rows-within s heldWords answer e) h w in (
-      n₂ ∙ ap (λ (k : ℕ). k + length (lastLine answer)) n₁ ∙ sym (length-append rows-text (lastLine answer)) ∙ ap length all,
-      m₂ ∙ then-text rows-text text made₁ 0 end₁ m₁ (omega arith) (lastLine answer) (omega arith) ∙ ap (λ l. written l text 0) all,
-    )
+-- THE PAGES TOGETHER, AND THE LAST LINE, ARE WHAT IS PRINTED
+pub pages-printed : (s words : List ℕ) (n : ℕ) → Bytes s
+    → let answer = listCall s heldRows in
+    let after = printedWords answer (rowsAfter s heldRows words) in
+    length after ≤ n * pageRows * 5 → joined (map (pageText (blocksOf answer) after) (below n)) ++ lastLine answer ≡ printed s
+pages-printed s words n bytes h =
+    let answer = listCall s heldRows in
+    let after = printedWords answer (rowsAfter s heldRows words) in
+    ap (λ l. l ++ lastLine answer) (pages-lines (blocksOf answer) n after h) ∙ lines-printed s words bytes
 
--- what is printed ends within the text
+-- as many bytes as the lines and the last one have are as many as are printed
+pub all-written : (s words : List ℕ) → Bytes s → {answer : Result (ℕ × ℕ)} {after : List ℕ} {n blocks lines last : ℕ}
+    → answer ≡ listCall s heldRows → after ≡ rowsAfter s heldRows words → n ≡ rowsOf answer → blocks ≡ blocksOf answer
+    → lines ≡ length (linesIn blocks (take (n * 5) after)) → last ≡ length (lastLine answer) → lines + last ≡ length (printed s)
+all-written s words bytes {answer} {after} e f g h l k =
+    let text = linesIn (blocksOf answer) (printedWords answer after) in
+    let told = l ∙ ap₂ (λ (m b : ℕ). length (linesIn b (take (m * 5) after))) g h in
+    ap₂ _+_ told k ∙ sym (length-append text (lastLine answer)) ∙
+    ap₂ (λ x w. length (linesIn (blocksOf x) (printedWords x w) ++ lastLine x)) e f ∙ ap length (lines-printed s words bytes)
+
+-- what is put at the front of a text ends within it
 pub text-within : (text old : List ℕ) {now : List ℕ} {end : ℕ} → end ≡ length text → now ≡ written text old 0 → end ≤ length now
 text-within text old e h = omega (arith, e, ap length h ∙ length-append text (drop (0 + length text) old))
 

@@ -1,15 +1,27 @@
--- How the program comes to what it prints: the rows that List leaves, and a last line for what it answers.
-use Prim.Native.Nat.{ℕ}
+-- How the program comes to what it prints: pages of the lines of the rows that List leaves, and a last line for what it answers.
+use Prim.Native.Nat.{ℕ, _*_, min}
+use mathlib.Core.Path.{_≡_}
+use mathlib.Core.Bool.{true}
 use mathlib.Core.List.{List}
+use lib.ListN.{length, take, drop}
 use Rattle.list_text.specs.Lines.{optionsLine, refusalLine}
+use Rattle.list_text.specs.RowLines.{linesOf}
+use Rattle.listoptions.specs.declared.Sent.{Sent}
 use Rattle.sequences.specs.Results.{Result, ok, refused}
 
--- words for 65,536 rows, as many as there can be candidates, and bytes for their lines, of at most 38 bytes each, and a last one
+-- words for 65,536 rows, as many as there can be candidates, and for their keys
 abbrev pub heldWords : ℕ
-heldWords = 131072
+heldWords = 327680
+
+abbrev pub heldKeys : ℕ
+heldKeys = 131072
+
+-- the rows of a page, and bytes for their lines, of at most 101 bytes each
+abbrev pub pageRows : ℕ
+pageRows = 1024
 
 abbrev pub heldBytes : ℕ
-heldBytes = 2490432
+heldBytes = 103424
 
 -- how many rows are printed, and how many digits each has
 abbrev pub rowsOf : Result (ℕ × ℕ) → ℕ
@@ -20,7 +32,18 @@ abbrev pub blocksOf : Result (ℕ × ℕ) → ℕ
 blocksOf (ok extent) = extent .1
 blocksOf (refused number place) = 0
 
+-- the lines of the rows that words make, and those of page k of them
+abbrev pub linesIn : (blocks : ℕ) → List ℕ → List ℕ
+linesIn blocks words = linesOf (min blocks 16) words
+
+abbrev pub pageText : (blocks : ℕ) → List ℕ → (k : ℕ) → List ℕ
+pageText blocks words k = linesIn blocks (take (pageRows * 5) (drop (k * pageRows * 5) words))
+
 -- the number of rows behind them, or why there are none
 abbrev pub lastLine : Result (ℕ × ℕ) → List ℕ
 lastLine (ok extent) = optionsLine (extent .0)
 lastLine (refused number place) = refusalLine number place
+
+-- what was written is as long as the text, if all of it was taken
+abbrev pub Whole : Sent → List ℕ → Type 0
+Whole sent text = sent .whole ≡ true → sent .bytes ≡ length text

@@ -15,7 +15,8 @@ use Rattle.list_text.specs.Lines.{ascii, rowLine, optionsLine, refusalLine}
 -- the lines of rows, one behind the other
 abbrev pub rowLines : (blocks : ℕ) → List Row → List ℕ
 rowLines blocks [] = []
-rowLines blocks (r ∷ rs) = rowLine (r .cost) (r .placement) blocks ++ rowLines blocks rs
+rowLines blocks (r ∷ rs) =
+    rowLine (r .cost) (r .placement) blocks (r .bill .storage) (r .bill .transfer) (r .bill .cpu) ++ rowLines blocks rs
 
 abbrev pub printedFor : Result Description → List ℕ
 printedFor (ok d) = rowLines (length (d .blocks)) (rows d) ++ optionsLine (length (rows d))
@@ -26,6 +27,7 @@ printed s = printedFor (read s)
 
 -- worked examples: the interview file, the end alone, and no input at all
 pub record Examples : Type 0 where
-  pub interview : printed m ≡ ascii "2820 11111\n2840 11110\n2920 11000\n2940 11001\n3020 11011\n3040 11010\noptions 6\n"
+  pub interview : printed m ≡ ascii "2820 11111 1320 0 1500\n2840 11110 1320 20 1500\n2920 11000 1320 100 1500\n" ++
+      ascii "2940 11001 1320 120 1500\n3020 11011 1320 200 1500\n3040 11010 1320 220 1500\noptions 6\n"
   pub endAlone : printed (0 ∷ []) ≡ ascii "refused 8 1\n"
   pub nothing : printed [] ≡ ascii "refused 1 0\n"

@@ -1,17 +1,27 @@
-// Lists the options of the description on standard input: a line for each row, cheapest first, and last their number. All of it is made in
-// memory before the first byte goes out, so that one contract says what is printed.
-ghost use Prim.Native.Nat.{_+_, _≤_};
+// Lists the options of the description on standard input: a line for each row, cheapest first, and last their number. The lines are made
+// page by page, so that the text of 65,536 rows needs no room of its own on the stack.
+ghost use Prim.Native.Nat.{_*_, _≤_};
 ghost use mathlib.Core.Path.{_≡_};
 ghost use lib.ListN.{length};
 ghost use Rattle.whole_list.specs.WholeList.{listAnswer};
 ghost use Rattle.list_text.specs.Lines.{written};
-ghost use Rattle.listoptions.specs.Making.{heldWords, heldBytes, rowsOf, blocksOf, lastLine};
+ghost use Rattle.listoptions.specs.Making.{heldWords, heldKeys, heldBytes, pageRows, rowsOf, blocksOf, lastLine, pageText, linesIn, Whole};
 ghost use Rattle.listoptions.specs.Printed.{printed};
 use libc::STDIN_FILENO;
 use libc::STDOUT_FILENO;
 use list_text::rows::put_rows;
 use whole_list::Extent;
 use whole_list::Listed;
+use whole_list::billing::ROW_WORDS;
+
+// The rows whose lines are one page.
+const PAGE_ROWS: usize = 1024;
+
+// How many bytes were written, and whether standard output took all that there were to write.
+struct Sent {
+    whole: bool,
+    bytes: usize,
+}
 
 // How many rows are printed, and how many digits each has: of what is refused there are none.
 fn extent_of(listed: Listed) -> Extent
@@ -23,50 +33,95 @@ fn extent_of(listed: Listed) -> Extent
     }
 }
 
-// The line behind the rows: how many there are, or why there are none. No such line has more than 64 bytes.
-fn put_last(listed: Listed, text: &mut [u8], at: usize) -> usize
-    requires { ⌜ at + 64 ≤ length (now text) ⌝ }
-    ensures { λ r. ⌜ r ≡ at + length (lastLine (listAnswer listed)) ⌝ }
-    ensures { λ _. ⌜ now (text .exit) ≡ written (lastLine (listAnswer listed)) (now (text .entry)) at ⌝ }
+// The line behind the rows: how many there are, or why there are none.
+fn put_last(listed: Listed, text: &mut [u8]) -> usize
+    requires { ⌜ length (now text) ≡ heldBytes ⌝ }
+    ensures { λ r. ⌜ r ≡ length (lastLine (listAnswer listed)) ⌝ }
+    ensures { λ _. ⌜ now (text .exit) ≡ written (lastLine (listAnswer listed)) (now (text .entry)) 0 ⌝ }
 {
     match listed {
-        Listed::Rows(extent) => list_text::put_options(extent.rows as u64, text, at),
-        Listed::Refused(r) => list_text::put_refusal(r.number, r.place as u64, text, at),
+        Listed::Rows(extent) => list_text::put_options(extent.rows as u64, text, 0),
+        Listed::Refused(r) => list_text::put_refusal(r.number, r.place as u64, text, 0),
     }
 }
 
-// Everything that is printed for a description, at the front of the text.
-fn put_list(description: &[u8], rows: &mut [u64], scratch: &mut [u64], text: &mut [u8]) -> usize
-    requires { ⌜ (length (now rows) ≡ heldWords) × (length (now scratch) ≡ heldWords) × (length (now text) ≡ heldBytes) ⌝ }
-    ensures { λ r. ⌜ r ≡ length (printed (now (description .entry))) ⌝ }
-    ensures { λ _. ⌜ now (text .exit) ≡ written (printed (now (description .entry))) (now (text .entry)) 0 ⌝ }
+// A page of the rows' lines.
+fn put_page(rows: &[u64], blocks: usize, page: usize, text: &mut [u8]) -> usize
+    requires { ⌜ (page * pageRows * 5 ≤ length (now rows)) × (length (now text) ≡ heldBytes) ⌝ }
+    ensures { λ r. ⌜ r ≡ length (pageText blocks (now (rows .entry)) page) ⌝ }
+    ensures { λ _. ⌜ now (text .exit) ≡ written (pageText blocks (now (rows .entry)) page) (now (text .entry)) 0 ⌝ }
+{
+    let first = page * PAGE_ROWS * ROW_WORDS;
+    put_rows(&rows[first..], blocks, text)
+}
+
+fn write_front(text: &[u8], end: usize) -> bool
+    requires { ⌜ end ≤ length (now text) ⌝ }
+{
+    if io::write_all(STDOUT_FILENO, &text[..end]) {
+        return true;
+    }
+    os::fail(b"listoptions: standard output");
+    false
+}
+
+// All pages, one after the other.
+fn write_pages(rows: &[u64], blocks: usize, text: &mut [u8]) -> Sent
+    requires { ⌜ (length (now rows) ≤ heldWords) × (length (now text) ≡ heldBytes) ⌝ }
+    ensures { λ r. ⌜ Whole r (linesIn blocks (now (rows .entry))) ⌝ }
+    ensures { λ r. ⌜ r .bytes ≤ 64 * heldBytes ⌝ }
+{
+    let mut bytes = 0;
+    let mut page = 0;
+    while page * PAGE_ROWS * ROW_WORDS < rows.len() {
+        let end = put_page(rows, blocks, page, text);
+        if !write_front(text, end) {
+            return Sent {
+                whole: false,
+                bytes,
+            };
+        }
+        bytes += end;
+        page += 1;
+    }
+    Sent { whole: true, bytes }
+}
+
+// Everything that is printed for a description: the pages, and the last line.
+fn write_list(description: &[u8], rows: &mut [u64], scratch: &mut [u64], text: &mut [u8]) -> Sent
+    requires { ⌜ (length (now rows) ≡ heldWords) × (length (now scratch) ≡ heldKeys) × (length (now text) ≡ heldBytes) ⌝ }
+    ensures { λ r. ⌜ Whole r (printed (now (description .entry))) ⌝ }
 {
     let listed = whole_list::list(description, rows, scratch);
     let extent = extent_of(listed);
-    let end = put_rows(&rows[..extent.rows * 2], extent.blocks, text);
-    put_last(listed, text, end)
-}
-
-fn write_list(description: &[u8], rows: &mut [u64], scratch: &mut [u64], text: &mut [u8])
-    requires { ⌜ (length (now rows) ≡ heldWords) × (length (now scratch) ≡ heldWords) × (length (now text) ≡ heldBytes) ⌝ }
-{
-    let end = put_list(description, rows, scratch, text);
-    if !io::write_all(STDOUT_FILENO, &text[..end]) {
-        os::fail(b"listoptions: standard output");
+    let sent = write_pages(&rows[..extent.rows * ROW_WORDS], extent.blocks, text);
+    if !sent.whole {
+        return sent;
+    }
+    let end = put_last(listed, text);
+    Sent {
+        whole: write_front(text, end),
+        bytes: sent.bytes + end,
     }
 }
 
-// Words for as many rows as there can be candidates, and bytes for their lines and a last one.
-fn words() -> [u64; 131072]
+// Words for as many rows as there can be candidates, words for their keys, and bytes for a page.
+fn words() -> [u64; 327680]
     ensures { λ r. ⌜ length r ≡ heldWords ⌝ }
+{
+    [0; 327680]
+}
+
+fn keys() -> [u64; 131072]
+    ensures { λ r. ⌜ length r ≡ heldKeys ⌝ }
 {
     [0; 131072]
 }
 
-fn bytes() -> [u8; 2490432]
+fn bytes() -> [u8; 103424]
     ensures { λ r. ⌜ length r ≡ heldBytes ⌝ }
 {
-    [0; 2490432]
+    [0; 103424]
 }
 
 // Of longer input the first `decidingBytes` decide (`printed-front`): what does not fit into the buffer need not be read.
@@ -78,7 +133,7 @@ fn main() {
     let mut space = io::buffer();
     let count = io::read_full(STDIN_FILENO, &mut space);
     let mut rows = words();
-    let mut scratch = words();
+    let mut scratch = keys();
     let mut text = bytes();
     write_list(&space[..count], &mut rows, &mut scratch, &mut text);
 }

@@ -121,10 +121,6 @@ packFrom-zeros a (suc n) =
     let e : a * 8 + 0 ≡ a * 8 = omega arith in
     packFrom-zeros (a * 8 + 0) n ∙ rw (e, mul-assoc, pow-succ')
 
-pub pack-small : (n : ℕ) (q : List ℕ) → length q ≡ n → Low q → pack q < 8 ^ n
-unfolding pack
-pack-small n q e l = omega (arith, pack-less 0 1 q (replicate n 0) (e ∙ sym (length-replicate n 0)) l (omega arith), packFrom-zeros 1 n)
-
 packFrom-before : (a : ℕ) (p q : List ℕ) → length p ≡ length q → Low p → Low q → ltb (packFrom a p) (packFrom a q) ≡ before p q
 packFrom-before a [] [] e l m = le-ltb a a (le-refl a)
 packFrom-before a [] (y ∷ q) e l m = absurd (omega arith)

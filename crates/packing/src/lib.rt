@@ -16,7 +16,7 @@ pub fn cloud_in(place: u64, blocks: usize, b: usize) -> usize
 
 // The clouds of all blocks, then zeros.
 pub fn unpacked(place: u64, blocks: usize) -> [u8; 16]
-    requires { ⌜ (blocks ≤ 16) × (place < 8 ^ blocks) ⌝ }
+    requires { ⌜ blocks ≤ 16 ⌝ }
     ensures { λ r. ⌜ r ≡ digits blocks place ++ replicate (16 - blocks) 0 ⌝ }
 {
     let mut clouds = [0u8; 16];

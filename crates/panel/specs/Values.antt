@@ -26,10 +26,10 @@ transferCount ts = one (length ts)
 abbrev pub figures : Census → List ℕ
 figures c = c .candidates ∷ c .breaking16 ∷ c .breaking17only ∷ c .secure ∷ c .options ∷ []
 
--- Draw: 1 and the cost of a row, or two zeros where there is none
+-- Draw: 1, and the cost of a row with the three amounts of its bill; or zeros where there is none
 abbrev pub rowOrNone : Option Row → List ℕ
-rowOrNone (some row) = 1 ∷ row .cost ∷ []
-rowOrNone none = 0 ∷ 0 ∷ []
+rowOrNone (some row) = 1 ∷ row .cost ∷ row .bill .storage ∷ row .bill .transfer ∷ row .bill .cpu ∷ []
+rowOrNone none = 0 ∷ 0 ∷ 0 ∷ 0 ∷ 0 ∷ []
 
 -- Draw: the sixteen bytes of the row, or zeros
 abbrev pub rowBytes : Option Row → List ℕ

@@ -10,7 +10,7 @@ ghost use Rattle.judging.specs.Calls.{readCall, judgeCall, transfersCall};
 ghost use Rattle.costs.specs.Transfers.{bufferAfter};
 ghost use Rattle.lister.specs.Answers.{censusAnswer, drawAnswer};
 ghost use Rattle.lister.specs.Calls.{censusCall, drawCall};
-ghost use Rattle.whole_list.specs.WholeList.{listAnswer, listCall, rowsAfter, scratchAfter};
+ghost use Rattle.whole_list.specs.WholeList.{capacity, listAnswer, listCall, rowsAfter, scratchAfter};
 ghost use Rattle.panel.specs.Statuses.{highestPlace, refusalStatus, status, valuesAfter};
 ghost use Rattle.panel.specs.Values.{counts as countValues, transferCount, figures as figureValues, rowOrNone, rowBytes, extent as extentValues, one};
 use costs::answers::Transferred;
@@ -101,7 +101,7 @@ fn put_figures(answer: Counted, figures: &mut [u64; 5]) -> u64
     }
 }
 
-fn put_row(drawn: Drawn, answer: &mut [u64; 2], row: &mut [u8; 16]) -> u64
+fn put_row(drawn: Drawn, answer: &mut [u64; 5], row: &mut [u8; 16]) -> u64
     ensures { λ r. ⌜ r ≡ status (drawAnswer drawn) ⌝ }
     ensures { λ _. ⌜ now (answer .exit) ≡ valuesAfter rowOrNone (drawAnswer drawn) (now (answer .entry)) ⌝ }
     ensures { λ _. ⌜ now (row .exit) ≡ valuesAfter rowBytes (drawAnswer drawn) (now (row .entry)) ⌝ }
@@ -109,14 +109,15 @@ fn put_row(drawn: Drawn, answer: &mut [u64; 2], row: &mut [u8; 16]) -> u64
     let told = drawn.answer;
     let found = drawn.row;
     let placement = found.placement;
+    let bill = found.bill;
     match told {
         Answer::Found => {
-            *answer = [1, found.cost];
+            *answer = [1, found.cost, bill.storage, bill.transfer, bill.cpu];
             *row = placement;
             0
         }
         Answer::Finished => {
-            *answer = [0, 0];
+            *answer = [0, 0, 0, 0, 0];
             *row = [0u8; 16];
             0
         }
@@ -184,14 +185,14 @@ pub extern "C" fn panel_census(description: &[u8], figures: &mut [u64; 5]) -> u6
     put_figures(answer, figures)
 }
 
-// Draw: whether there is a row past the cursor, and that row.
+// Draw: whether there is a row past the cursor, and that row with its bill.
 #[no_mangle]
 pub extern "C" fn panel_draw(
     description: &[u8],
     start: bool,
     cost: u64,
     placement: &[u8; 16],
-    answer: &mut [u64; 2],
+    answer: &mut [u64; 5],
     row: &mut [u8; 16],
 ) -> u64
     ensures { λ r. ⌜ r ≡ status (drawCall (now (description .entry)) (record { start = start; cost = cost; placement = now (placement .entry) })) ⌝ }
@@ -208,7 +209,7 @@ pub extern "C" fn panel_draw(
     put_row(drawn, answer, row)
 }
 
-// List: the rows in lent words, two for each, and how many rows there are and blocks each has.
+// List: the rows in lent words, five for each, and how many rows there are and blocks each has.
 #[no_mangle]
 pub extern "C" fn panel_list(
     description: &[u8],
@@ -216,10 +217,10 @@ pub extern "C" fn panel_list(
     scratch: &mut [u64],
     extent: &mut [u64; 2],
 ) -> u64
-    ensures { λ r. ⌜ r ≡ status (listCall (now (description .entry)) (min (length (now (rows .entry))) (length (now (scratch .entry))))) ⌝ }
-    ensures { λ _. ⌜ now (rows .exit) ≡ rowsAfter (now (description .entry)) (min (length (now (rows .entry))) (length (now (scratch .entry)))) (now (rows .entry)) ⌝ }
-    ensures { λ _. ⌜ now (scratch .exit) ≡ scratchAfter (now (description .entry)) (min (length (now (rows .entry))) (length (now (scratch .entry)))) (now (scratch .entry)) ⌝ }
-    ensures { λ _. ⌜ now (extent .exit) ≡ valuesAfter extentValues (listCall (now (description .entry)) (min (length (now (rows .entry))) (length (now (scratch .entry))))) (now (extent .entry)) ⌝ }
+    ensures { λ r. ⌜ r ≡ status (listCall (now (description .entry)) (capacity (length (now (rows .entry))) (length (now (scratch .entry))))) ⌝ }
+    ensures { λ _. ⌜ now (rows .exit) ≡ rowsAfter (now (description .entry)) (capacity (length (now (rows .entry))) (length (now (scratch .entry)))) (now (rows .entry)) ⌝ }
+    ensures { λ _. ⌜ now (scratch .exit) ≡ scratchAfter (now (description .entry)) (capacity (length (now (rows .entry))) (length (now (scratch .entry)))) (now (scratch .entry)) ⌝ }
+    ensures { λ _. ⌜ now (extent .exit) ≡ valuesAfter extentValues (listCall (now (description .entry)) (capacity (length (now (rows .entry))) (length (now (scratch .entry))))) (now (extent .entry)) ⌝ }
 {
     let listed = whole_list::list(description, rows, scratch);
     put_extent(listed, extent)

@@ -116,10 +116,6 @@ module _ {A B : Type 0} (test : A → A → Bool) (later : A → Bool) (t : B �
   pub walk-is-best : (l : List B) → foldl (betterIf test later t f) none l ≡ bestOf test later (map f (keep t l))
   walk-is-best = fold-kept t f (better test later) (betterIf test later t f) (λ best b p. rw p refl) (λ best b p. rw p refl) none
 
-  -- and finds the first past the cursor of those, mapped and sorted
-  pub walk-is-first : StrictOrder test → (l : List B) → foldl (betterIf test later t f) none l ≡ find later (sort test (map f (keep t l)))
-  walk-is-first order l = walk-is-best l ∙ best-is-first order later (map f (keep t l))
-
 -- ---- draws in a row
 
 -- l is, in order, all that has the property P

@@ -7,8 +7,10 @@ pub mod Draws
 pub mod Equality
 pub mod First
 pub mod Grouping
+pub mod Joined
 pub mod Lexicographic
 pub mod Loops
+pub mod Mapped
 pub mod Members
 pub mod Numbers
 pub mod Orders

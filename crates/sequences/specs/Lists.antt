@@ -53,6 +53,11 @@ module _ {A : Type 0} where
   distinctBy alike [] = []
   distinctBy alike (x ∷ xs) = cond (any (alike x) xs) (distinctBy alike xs) (x ∷ distinctBy alike xs)
 
+  -- the lists one behind the other
+  abbrev pub joined : List (List A) → List A
+  joined [] = []
+  joined (x ∷ xs) = x ++ joined xs
+
   -- each of the lists with each of the elements in front, the elements varying slowest
   abbrev pub prefixed : List (List A) → List A → List (List A)
   prefixed rest [] = []

@@ -12,16 +12,15 @@ use Rattle.security.proofs.Candidates.{candidates-once}
 use Rattle.survey.specs.declared.Row.{Row}
 use Rattle.survey.specs.declared.Cursor.{Cursor}
 use Rattle.survey.specs.Rows.{securePlacements, earlier, rowOf, stands, rows, later, draw}
-use Rattle.survey.proofs.RowOrder.{earlier-order, rowOf-apart}
+use Rattle.survey.proofs.RowOrder.{placement-order}
 use Rattle.sequences.specs.Ascending.{Ascending, Once}
 use Rattle.sequences.specs.Draws.{betterIf}
-use Rattle.sequences.specs.Orders.{Least}
 use Rattle.sequences.specs.Lists.{keep, find, sort}
-use Rattle.sequences.proofs.Ascending.{keep-once, map-once}
-use Rattle.sequences.proofs.Draws.{find-least, walk-is-first}
+use Rattle.sequences.proofs.Ascending.{keep-once}
+use Rattle.sequences.proofs.Mapped.{walk-is-first-mapped, sort-ascends-mapped}
 use Rattle.sequences.proofs.Members.{keep-members}
 use Rattle.sequences.proofs.Parts.{keep-both}
-use Rattle.sequences.proofs.Sorting.{sort-members, sort-ascends}
+use Rattle.sequences.proofs.Sorting.{sort-members}
 
 -- each secure placement is there once
 pub secure-once : (d : Description) → Once (securePlacements d)
@@ -29,19 +28,21 @@ unfolding securePlacements
 secure-once d = keep-once (secure d) (candidates d) (candidates-once d)
 
 module _ (d : Description) where
-  -- the rows before they are sorted
-  abbrev pub unsorted : List Row
-  unsorted = map (rowOf d) (keep (stands d) (securePlacements d))
+  -- the placements that stand for their options, and their rows before they are sorted
+  abbrev pub standing : List (List ℕ)
+  standing = keep (stands d) (securePlacements d)
 
-  pub unsorted-once : Once unsorted
-  unsorted-once =
-      map-once (rowOf d) (rowOf-apart d) (keep (stands d) (securePlacements d)) (keep-once (stands d) (securePlacements d) (secure-once d))
+  pub standing-once : Once standing
+  standing-once = keep-once (stands d) (securePlacements d) (secure-once d)
+
+  abbrev pub unsorted : List Row
+  unsorted = map (rowOf d) standing
 
   unsorted-members : (r : Row)
       → List·Memᴰ r unsorted ↔ ((p : List ℕ) × List·Memᴰ p (securePlacements d) × (stands d p ≡ true) × (rowOf d p ≡ r))
   unsorted-members r = (
     λ m.
-        let (p, k, e) = Memᴰ·of-map (rowOf d) (keep (stands d) (securePlacements d)) m in
+        let (p, k, e) = Memᴰ·of-map (rowOf d) standing m in
         let (i, s) = keep-members (stands d) (securePlacements d) p .0 k in
         (p, i, s, e),
     λ (p, i, s, e). Memᴰ·cast (sym e) (Memᴰ·map (rowOf d) (keep-members (stands d) (securePlacements d) p .1 (i, s))),
@@ -50,7 +51,7 @@ module _ (d : Description) where
   -- the rows rise strictly
   pub rows-rise : Ascending earlier (rows d)
   unfolding rows
-  rows-rise = sort-ascends earlier-order unsorted unsorted-once
+  rows-rise = sort-ascends-mapped (rowOf d) earlier (placement-order d) standing standing-once
 
   -- they are the rows of the secure placements that stand for their options
   pub rows-standing : (r : Row)
@@ -64,7 +65,7 @@ pub draw-walks : (d : Description) (c : Cursor)
 unfolding draw rows securePlacements
 draw-walks d c =
     ap (λ (l : List (List ℕ)). find (later c) (sort earlier (map (rowOf d) l))) (keep-both (secure d) (stands d) (candidates d)) ∙
-    sym (walk-is-first earlier (later c) (λ p. secure d p && stands d p) (rowOf d) earlier-order (candidates d))
+    sym (walk-is-first-mapped (rowOf d) earlier (placement-order d) (later c) (λ p. secure d p && stands d p) (candidates d))
 
 -- the rows are those of the placements, sorted; and a draw answers the first of them that is past its cursor
 module _ (d : Description) where
@@ -72,6 +73,6 @@ module _ (d : Description) where
   unfolding rows
   rows-sorted = refl
 
-  pub draw-least : (c : Cursor) → Least earlier (λ r. List·Memᴰ r (unsorted d) × (later c r ≡ true)) (draw d c)
+  pub draw-finds : (c : Cursor) → draw d c ≡ find (later c) (sort earlier (unsorted d))
   unfolding draw rows
-  draw-least c = find-least earlier-order (later c) (unsorted d)
+  draw-finds c = refl

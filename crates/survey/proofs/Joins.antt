@@ -1,5 +1,5 @@
 -- The tables of a description that a walk may go over are its tables: what the walk sees over them is said of the description.
-use Prim.Native.Nat.{ℕ, _-_, _^_, _<_}
+use Prim.Native.Nat.{ℕ, _-_, _<_}
 use native.Mathlib.Nat.{suc-inj}
 use native.Mathlib.Omega.{arith}
 use mathlib.Core.Path.{_≡_, refl, sym, ap, subst, _∙_}
@@ -18,12 +18,12 @@ use Rattle.security.specs.Soundness.{candidates, count}
 use Rattle.security.specs.Placements.{secure}
 use Rattle.security.proofs.Accepted.{admitted-bounded}
 use Rattle.security.proofs.Candidates.{count-is-length}
-use Rattle.costs.specs.Cost.{cost}
+use Rattle.costs.specs.Cost.{billOf, cost}
 use Rattle.costs.specs.Terms.{weightOf}
 use Rattle.costs.proofs.CostBound.{bounded-cost}
 use Rattle.costs.proofs.Weights.{weight-class, weight-cost}
 use Rattle.packing.specs.Packing.{pack, digits}
-use Rattle.packing.proofs.Digits.{pack-before, pack-small, digits-pack}
+use Rattle.packing.proofs.Digits.{pack-before, digits-pack}
 use Rattle.weights.specs.Weights.{costLimit, classOf}
 use Rattle.visit.specs.Tables.{weight}
 use Rattle.visit.specs.Tables.{stands as standsBy}
@@ -192,22 +192,19 @@ module _ (d : Description) (o : Option Row) (s : List ℕ) where
       go none k = refl
       go (some row) k = absurd (omega (arith, k .4, k .5, e))
 
-  pub kept-low : KeptRow d o s → (getD s bestCostAt 0 ≡ costLimit → ⊥) → getD s bestPlaceAt 0 < 8 ^ length (d .blocks)
-  kept-low k n = go o k
-    where
-      go : (o : Option Row) → KeptRow d o s → getD s bestPlaceAt 0 < 8 ^ length (d .blocks)
-      go none k = absurd (n k)
-      go (some row) k = rw (k .6) (pack-small (length (d .blocks)) (k .0) (k .1) (k .2))
-
   pub some-kept : KeptRow d o s → (getD s bestCostAt 0 ≡ costLimit → ⊥) → (bytes : List ℕ)
       → bytes ≡ digits (length (d .blocks)) (getD s bestPlaceAt 0) ++ replicate (16 - length (d .blocks)) 0
-      → o ≡ some (record { cost = getD s bestCostAt 0; placement = bytes })
+      → o ≡ some (record { cost = getD s bestCostAt 0; placement = bytes; bill = billOf d bytes })
   some-kept k n bytes e = go o k
     where
-      go : (o : Option Row) → KeptRow d o s → o ≡ some (record { cost = getD s bestCostAt 0; placement = bytes })
+      go : (o : Option Row) → KeptRow d o s → o ≡ some (record { cost = getD s bestCostAt 0; placement = bytes; bill = billOf d bytes })
       go none k = absurd (n k)
       go (some row) (q, size, low, same, price, small, packed) =
           let behind : List ℕ → List ℕ = λ x. x ++ replicate (16 - length (d .blocks)) 0 in
           let shown : bytes ≡ padded d q =
           e ∙ ap (λ x. behind (digits (length (d .blocks)) x)) packed ∙ ap behind (digits-pack (length (d .blocks)) q size low) in
-          ap some (λ i. record { cost = sym price i; placement = (sym (ap (λ x. x .placement) same) ∙ sym shown) i })
+          ap some (λ i. record {
+            cost = sym price i;
+            placement = (sym (ap (λ x. x .placement) same) ∙ sym shown) i;
+            bill = (sym (ap (λ x. x .bill) same) ∙ ap (billOf d) (sym shown)) i;
+          })

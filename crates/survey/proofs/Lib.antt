@@ -1,3 +1,4 @@
+pub mod Billing
 pub mod Counting
 pub mod Cursors
 pub mod Drawing

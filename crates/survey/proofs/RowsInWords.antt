@@ -1,10 +1,10 @@
--- The rows of a description as words: what one walk keeps of it are its rows in the walk's order, and words order them as the rows come.
+-- The keys of a description's rows: what one walk keeps of it are they, in the walk's order, and they are ordered as the rows come.
 use Prim.Native.Nat.{ℕ, _+_, _*_, _-_, _≤_}
 use native.Mathlib.Nat.{zero-add}
 use native.Mathlib.Omega.{arith}
 use mathlib.Core.Path.{_≡_, refl, sym, ap, ap₂, subst, subst₂, _∙_}
 use mathlib.Core.Bool.{Bool, _&&_, _||_}
-use mathlib.Core.List.{List, [], _∷_, _++_, map, List·Memᴰ, Memᴰ·of-map}
+use mathlib.Core.List.{List, _++_, map, map-map, List·Memᴰ, Memᴰ·of-map}
 use lib.Dec.{ltb, eqb}
 use lib.ListN.{length, take, drop, replicate, length-map}
 use lib.Seq.{take-at}
@@ -32,17 +32,13 @@ use Rattle.tables.specs.Building.{tablesOf, padded}
 use Rattle.survey.specs.declared.Row.{Row}
 use Rattle.survey.specs.Joining.{Joined, met}
 use Rattle.survey.specs.Rows.{securePlacements, rowOf, earlier, stands, rows}
-use Rattle.survey.specs.RowWords.{rowWords, needed, unsorted}
+use Rattle.survey.specs.RowWords.{rowKey, keysNeeded, unsorted}
 use Rattle.survey.specs.Surveys.{toCount, keptOf}
 use Rattle.survey.proofs.Counting.{rows-length}
+use Rattle.survey.proofs.Drawing.{standing}
 use Rattle.survey.proofs.Joins.{joined, ordered}
 use Rattle.survey.proofs.Keeping.{kept-words}
 use Rattle.survey.proofs.Walked.{secure-is, is-row}
-
--- two functions one after the other
-pub map-map : {A B C : Type 0} (f : A → B) (g : B → C) (l : List A) → map g (map f l) ≡ map (λ a. g (f a)) l
-map-map f g [] = refl
-map-map f g (a ∷ l) = ap (λ r. g (f a) ∷ r) (map-map f g l)
 
 module _ (d : Description) (a : Admitted d) where
   abbrev n : ℕ
@@ -57,14 +53,10 @@ module _ (d : Description) (a : Admitted d) where
   j : Joined d (tablesOf d)
   j = joined d a
 
-  -- the placements of the rows, and the same as the walk meets them
-  abbrev standing : List (List ℕ)
-  standing = keep (stands d) (securePlacements d)
-
   abbrev isRow : List ℕ → Bool
   isRow q = isSecure (W q) && standsBy (tablesOf d) n q
 
-  standing-met : map (padded d) (keep isRow met') ≡ standing
+  standing-met : map (padded d) (keep isRow met') ≡ standing d
   unfolding securePlacements
   standing-met =
       ap (map (padded d)) (keep-agree isRow (λ q. secure d (padded d q) && stands d (padded d q)) met' (is-row d (tablesOf d) j))
@@ -75,7 +67,7 @@ module _ (d : Description) (a : Admitted d) where
   blocks-of : (q : List ℕ) → List·Memᴰ q met' → take n (padded d q) ≡ q
   blocks-of q m = take-at q (replicate (16 - n) 0) n (j .sized q m)
 
-  words-met : (q : List ℕ) → List·Memᴰ q (keep isRow met') → _≡_ {A = ℕ × ℕ} (W q, pack q) (rowWords d (rowOf d (padded d q)))
+  words-met : (q : List ℕ) → List·Memᴰ q (keep isRow met') → _≡_ {A = ℕ × ℕ} (W q, pack q) (rowKey d (rowOf d (padded d q)))
   words-met q m =
       let (k, row) = keep-members isRow met' q .0 m in
       let light = sym (secure-is d (tablesOf d) j q k) ∙ both-pass (isSecure (W q)) (standsBy (tablesOf d) n q) .0 row .0 in
@@ -85,8 +77,8 @@ module _ (d : Description) (a : Admitted d) where
   kept-unsorted : flat (map (λ q. (W q, pack q)) (keep isRow met')) ≡ unsorted d
   unfolding unsorted
   kept-unsorted =
-      let words : List ℕ → ℕ × ℕ = λ p. rowWords d (rowOf d p) in
-      ap flat (map-agree _ _ (keep isRow met') words-met ∙ sym (map-map (padded d) words (keep isRow met')) ∙ ap (map words) standing-met)
+      let words : List ℕ → ℕ × ℕ = λ p. rowKey d (rowOf d p) in
+      ap flat (map-agree _ _ (keep isRow met') words-met ∙ sym (map-map words (padded d) (keep isRow met')) ∙ ap (map words) standing-met)
 
   rows-number : length (keep isRow met') ≡ length (rows d)
   rows-number = sym (length-map (keep isRow met') (padded d)) ∙ ap length standing-met ∙ sym (rows-length d)
@@ -97,46 +89,46 @@ module _ (d : Description) (a : Admitted d) where
       omega (arith, rows-number, two-parts isRow met', length-map met' (padded d), ap length (j .candidatesAre), count-is-length d)
 
   -- A WALK THAT COUNTS KEEPS THE ROWS, in the walk's order, where there is room
-  pub walk-keeps : (words : List ℕ) → needed d ≤ length words → keptOf d toCount words ≡ unsorted d ++ drop (needed d) words
+  pub walk-keeps : (words : List ℕ) → keysNeeded d ≤ length words → keptOf d toCount words ≡ unsorted d ++ drop (keysNeeded d) words
   walk-keeps words h =
       kept-in-turn (tablesOf d) n toCount words
       ∙ kept-words W pack (standsBy (tablesOf d) n) met' toCount words (record { size = refl; on = refl }) (rw (zero-add, rows-number) h)
       ∙ ap₂ (λ a b. a ++ drop (b * 2) words) kept-unsorted (zero-add (length (keep isRow met')) ∙ rows-number)
 
   -- a row is that of a placement that was met
-  met-of : (x : Row) → List·Memᴰ x (map (rowOf d) standing) → (q : List ℕ) × List·Memᴰ q met' × (rowOf d (padded d q) ≡ x)
+  met-of : (x : Row) → List·Memᴰ x (map (rowOf d) (standing d)) → (q : List ℕ) × List·Memᴰ q met' × (rowOf d (padded d q) ≡ x)
   met-of x member =
-      let (p, m, e) = Memᴰ·of-map (rowOf d) standing member in
+      let (p, m, e) = Memᴰ·of-map (rowOf d) (standing d) member in
       let (q, k, f) = Memᴰ·of-map (padded d) (keep isRow met') (subst (List·Memᴰ p) (sym standing-met) m) in
       (q, keep-members isRow met' q .0 k .0, ap (rowOf d) f ∙ e)
 
   -- NOTHING IS LOST IN PACKING: the clouds that a row's second word packs, with zeros behind them, are the row's sixteen bytes
-  pub words-row : (r : Row) → List·Memᴰ r (rows d) → digits n (rowWords d r .1) ++ replicate (16 - n) 0 ≡ r .placement
+  pub words-row : (r : Row) → List·Memᴰ r (rows d) → digits n (rowKey d r .1) ++ replicate (16 - n) 0 ≡ r .placement
   unfolding rows
   words-row r m =
-      let (q, k, e) = met-of r (sort-members earlier (map (rowOf d) standing) r .0 m) in
-      subst (λ x. digits n (rowWords d x .1) ++ replicate (16 - n) 0 ≡ x .placement) e
+      let (q, k, e) = met-of r (sort-members earlier (map (rowOf d) (standing d)) r .0 m) in
+      subst (λ x. digits n (rowKey d x .1) ++ replicate (16 - n) 0 ≡ x .placement) e
       (ap (λ l. digits n (pack l) ++ replicate (16 - n) 0) (blocks-of q k) ∙
       ap (λ l. l ++ replicate (16 - n) 0) (digits-pack n q (j .sized q k) (j .low q k)))
 
   -- WORDS ORDER ROWS as cost and then bytes do
-  pub ordered-rows : (x y : Row) → List·Memᴰ x (map (rowOf d) standing) → List·Memᴰ y (map (rowOf d) standing)
-      → lower (rowWords d x) (rowWords d y) ≡ earlier x y
+  pub ordered-rows : (x y : Row) → List·Memᴰ x (map (rowOf d) (standing d)) → List·Memᴰ y (map (rowOf d) (standing d))
+      → lower (rowKey d x) (rowKey d y) ≡ earlier x y
   ordered-rows x y in-x in-y =
       let (q, m, e) = met-of x in-x in
       let (u, k, f) = met-of y in-y in
       let same : ltb (pack (take n (padded d q))) (pack (take n (padded d u))) ≡ before (padded d q) (padded d u) =
       ap₂ (λ v w. ltb (pack v) (pack w)) (blocks-of q m) (blocks-of u k) ∙ sym (ordered d j q u m k) in
-      subst₂ (λ v w. lower (rowWords d v) (rowWords d w) ≡ earlier v w) e f
+      subst₂ (λ v w. lower (rowKey d v) (rowKey d w) ≡ earlier v w) e f
       (lower-is _ _ ∙ ap (λ z. ltb (cost d (padded d q)) (cost d (padded d u)) || (eqb (cost d (padded d q)) (cost d (padded d u)) && z)) same)
 
-  pub unsorted-length : length (unsorted d) ≡ needed d
+  pub unsorted-length : length (unsorted d) ≡ keysNeeded d
   unfolding unsorted
   unsorted-length =
-      let words : List ℕ → ℕ × ℕ = λ p. rowWords d (rowOf d p) in
-      length-flat (map words standing) ∙ ap (λ k. k * 2) (length-map standing words ∙ sym (rows-length d))
+      let words : List ℕ → ℕ × ℕ = λ p. rowKey d (rowOf d p) in
+      length-flat (map words (standing d)) ∙ ap (λ k. k * 2) (length-map (standing d) words ∙ sym (rows-length d))
 
   -- the rows that the words make
-  pub unsorted-pairs : pairs (unsorted d) ≡ map (rowWords d) (map (rowOf d) standing)
+  pub unsorted-pairs : pairs (unsorted d) ≡ map (rowKey d) (map (rowOf d) (standing d))
   unfolding unsorted
-  unsorted-pairs = pairs-flat (map (λ p. rowWords d (rowOf d p)) standing) ∙ sym (map-map (rowOf d) (rowWords d) standing)
+  unsorted-pairs = pairs-flat (map (λ p. rowKey d (rowOf d p)) (standing d)) ∙ sym (map-map (rowKey d) (rowOf d) (standing d))

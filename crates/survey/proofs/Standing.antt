@@ -15,11 +15,10 @@ use Rattle.options.proofs.Options.{sameOption-equivalence}
 use Rattle.options.proofs.Representatives.{local-is-global}
 use Rattle.options.proofs.Storage.{storage-is-local}
 use Rattle.survey.specs.Rows.{securePlacements, earlier, rowOf, stands}
-use Rattle.survey.proofs.RowOrder.{earlier-order, rowOf-apart}
-use Rattle.sequences.specs.Orders.{StrictOrder, Represented}
+use Rattle.survey.proofs.RowOrder.{placement-order}
+use Rattle.sequences.specs.Orders.{Represented}
 use Rattle.sequences.proofs.Agreeing.{tests-agree}
 use Rattle.sequences.proofs.Members.{keep-members}
-use Rattle.sequences.proofs.Orders.{pulled-back}
 use Rattle.sequences.proofs.Representatives.{stands-first, least-represent, stands-before}
 use Rattle.sequences.proofs.Tests.{not-passed}
 
@@ -33,20 +32,16 @@ module _ (d : Description) where
 
   -- ---- one for each option
 
-  -- placements by the order of their rows
-  placement-order : StrictOrder (λ p q. earlier (rowOf d p) (rowOf d q))
-  placement-order = pulled-back (rowOf d) (rowOf-apart d) earlier-order
-
   -- For each option exactly one placement stands: the first by cost and then bytes.
   pub options-stand : Represented (sameOption d) (stands d) (securePlacements d)
   unfolding stands
-  options-stand = least-represent placement-order (sameOption-equivalence d) (securePlacements d)
+  options-stand = least-represent (placement-order d) (sameOption-equivalence d) (securePlacements d)
 
   -- It is earlier than any other of its option.
   pub standing-earlier : (p q : List ℕ) → List·Memᴰ p (securePlacements d) → stands d q ≡ true → sameOption d p q ≡ true
       → (q ≡ p) ⊎ (earlier (rowOf d q) (rowOf d p) ≡ true)
   unfolding stands
-  standing-earlier = stands-before placement-order (sameOption-equivalence d) (securePlacements d)
+  standing-earlier = stands-before (placement-order d) (sameOption-equivalence d) (securePlacements d)
 
   -- ---- the same, by looking at one datum at a time
 

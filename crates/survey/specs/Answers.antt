@@ -23,7 +23,7 @@ rowIn n = cond (n .found) (some (n .row)) none
 
 -- where there is no row, all zeros stand in its place
 abbrev pub zeroRow : Row
-zeroRow = record { cost = 0; placement = replicate 16 0 }
+zeroRow = record { cost = 0; placement = replicate 16 0; bill = record { storage = 0; transfer = 0; cpu = 0 } }
 
 abbrev pub rowOr : Option Row → Row
 rowOr (some row) = row

@@ -1,4 +1,4 @@
--- Rows as words in lent memory.
+-- The keys of rows, as words in lent memory.
 use Prim.Native.Nat.{ℕ, _*_}
 use mathlib.Core.List.{List, map}
 use lib.ListN.{length, take}
@@ -9,14 +9,14 @@ use Rattle.sorting.specs.Rows.{flat}
 use Rattle.survey.specs.declared.Row.{Row}
 use Rattle.survey.specs.Rows.{securePlacements, rowOf, stands, rows}
 
--- a row as two words: its cost, and the clouds of its blocks as digits to the base 8
-abbrev pub rowWords : Description → Row → ℕ × ℕ
-rowWords d r = (r .cost, pack (take (length (d .blocks)) (r .placement)))
+-- a row's key, the two words by which rows are kept and sorted: its cost, and the clouds of its blocks as digits to the base 8
+abbrev pub rowKey : Description → Row → ℕ × ℕ
+rowKey d r = (r .cost, pack (take (length (d .blocks)) (r .placement)))
 
--- how many words all rows are
-abbrev pub needed : Description → ℕ
-needed d = length (rows d) * 2
+-- how many words all keys are
+abbrev pub keysNeeded : Description → ℕ
+keysNeeded d = length (rows d) * 2
 
--- the words of the rows as a walk meets them: by their placements' bytes alone
+-- the keys of the rows as a walk meets them: by their placements' bytes alone
 unfoldable pub unsorted : Description → List ℕ
-unsorted d = flat (map (λ p. rowWords d (rowOf d p)) (keep (stands d) (securePlacements d)))
+unsorted d = flat (map (λ p. rowKey d (rowOf d p)) (keep (stands d) (securePlacements d)))

@@ -7,7 +7,7 @@ use lib.ListN.{length}
 use Rattle.description.specs.Format.{Description}
 use Rattle.security.specs.Soundness.{candidates}
 use Rattle.security.specs.Placements.{broken16, broken17, secure}
-use Rattle.costs.specs.Cost.{cost}
+use Rattle.costs.specs.Cost.{billOf, cost}
 use Rattle.options.specs.Options.{sameOption}
 use Rattle.survey.specs.declared.Row.{Row}
 use Rattle.survey.specs.declared.Cursor.{Cursor}
@@ -36,12 +36,12 @@ census d = record {
   options = length (distinct d (securePlacements d));
 }
 
--- Rows come by cost and then by their sixteen bytes, compared from the first.
+-- Rows come by cost and then by their sixteen bytes, compared from the first; their bills have no part in it.
 abbrev pub earlier : Row → Row → Bool
 earlier r s = before (r .cost ∷ r .placement) (s .cost ∷ s .placement)
 
 abbrev pub rowOf : Description → List ℕ → Row
-rowOf d p = record { cost = cost d p; placement = p }
+rowOf d p = record { cost = cost d p; placement = p; bill = billOf d p }
 
 -- p stands for its option: no secure placement of the same option is earlier by cost and then bytes
 unfoldable pub stands : Description → List ℕ → Bool
@@ -51,9 +51,13 @@ stands d p = not (any (λ q. sameOption d q p && earlier (rowOf d q) (rowOf d p)
 unfoldable pub rows : Description → List Row
 rows d = sort earlier (map (rowOf d) (keep (stands d) (securePlacements d)))
 
--- Draw: the first row strictly later than the cursor; none: finished
-abbrev pub later : Cursor → Row → Bool
-later c r = c .start || earlier (record { cost = c .cost; placement = c .placement }) r
+-- a cost and sixteen bytes are strictly later than a cursor; a row is by its own
+abbrev pub isPast : Cursor → (cost : ℕ) (placement : List ℕ) → Bool
+isPast c cost placement = c .start || before (c .cost ∷ c .placement) (cost ∷ placement)
 
+abbrev pub later : Cursor → Row → Bool
+later c r = isPast c (r .cost) (r .placement)
+
+-- Draw: the first row strictly later than the cursor; none: finished
 unfoldable pub draw : Description → Cursor → Option Row
 draw d c = find (later c) (rows d)

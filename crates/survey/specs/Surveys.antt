@@ -11,7 +11,7 @@ use Rattle.visit.specs.Visits.{earlier}
 use Rattle.walk.specs.Walking.{seeAll, keepAll}
 use Rattle.tables.specs.Building.{tablesOf}
 use Rattle.survey.specs.declared.Cursor.{Cursor}
-use Rattle.survey.specs.Rows.{later}
+use Rattle.survey.specs.Rows.{isPast}
 
 -- the words that ask a walk to count everything
 abbrev pub toCount : List ℕ
@@ -34,4 +34,4 @@ pub record Asks (c : Cursor) (n : ℕ) (s : List ℕ) : Type 0 where
   pub place : ℕ
   pub words : s ≡ toDraw floor place
   pub past : (cost : ℕ) (q : List ℕ) → length q ≡ n → Low q
-      → later c (record { cost = cost; placement = q ++ replicate (16 - n) 0 }) ≡ not (earlier cost (pack q) floor place)
+      → isPast c cost (q ++ replicate (16 - n) 0) ≡ not (earlier cost (pack q) floor place)

@@ -9,9 +9,11 @@ ghost use Rattle.security.specs.Accepted.{Admitted};
 ghost use Rattle.security.specs.Soundness.{count};
 ghost use Rattle.visit.specs.Visits.{Fresh};
 ghost use Rattle.survey.specs.Answers.{figuresOf, rowIn, rowOr, zeroRow};
-ghost use Rattle.survey.specs.RowWords.{needed, unsorted};
+ghost use Rattle.survey.specs.RowWords.{keysNeeded, unsorted};
 ghost use Rattle.survey.specs.Rows.{census, draw, rows as rowsOf};
 ghost use Rattle.survey.specs.Surveys.{toCount, toDraw, seenOf, keptOf, Asks};
+use costs::answers::Bill;
+use costs::cost::bill_of;
 use description::words::Words;
 use description::workflow::block_count;
 use packing::floor_place;
@@ -32,10 +34,12 @@ use weights::BREAKS_SECOND;
 use weights::COST_LIMIT;
 use weights::SECURE;
 
-// Document 01's "row": the cost and the sixteen cloud numbers of the placement that stands for its option.
+// Document 01's "row": the cost and the sixteen cloud numbers of the placement that stands for its option; and its bill, whose three
+// amounts add up to the cost.
 pub struct Row {
     pub cost: u64,
     pub placement: [u8; 16],
+    pub bill: Bill,
 }
 
 // Where a draw goes on: at the start, or past a cost and sixteen bytes. The start is told by `start` alone: cost 0 with sixteen
@@ -143,6 +147,11 @@ fn no_row() -> Next
         row: Row {
             cost: 0,
             placement: [0u8; 16],
+            bill: Bill {
+                storage: 0,
+                transfer: 0,
+                cpu: 0,
+            },
         },
     }
 }
@@ -161,24 +170,27 @@ pub fn row_past(w: &Words, candidates: u64, cursor: Cursor) -> Next
     if state[BEST_COST] == COST_LIMIT {
         return no_row();
     }
+    let placement = unpacked(state[BEST_PLACE], blocks);
+    let bill = bill_of(w, placement);
     Next {
         found: true,
         row: Row {
             cost: state[BEST_COST],
-            placement: unpacked(state[BEST_PLACE], blocks),
+            placement,
+            bill,
         },
     }
 }
 
-// All rows, in the order of the walk, as two words each; and how many they are.
-pub fn keep_rows(w: &Words, candidates: u64, rows: &mut [u64]) -> usize
+// The keys of all rows, in the order of the walk; and how many they are.
+pub fn keep_rows(w: &Words, candidates: u64, keys: &mut [u64]) -> usize
     requires { ⌜ Admitted (describes (now w)) ⌝ }
     requires { ⌜ candidates ≡ count (describes (now w)) ⌝ }
-    requires { ⌜ needed (describes (now w)) ≤ length (now rows) ⌝ }
+    requires { ⌜ keysNeeded (describes (now w)) ≤ length (now keys) ⌝ }
     ensures { λ r. ⌜ r ≡ length (rowsOf (describes (now (w .entry)))) ⌝ }
-    ensures { λ _. ⌜ now (rows .exit) ≡ unsorted (describes (now (w .entry))) ++ drop (needed (describes (now (w .entry)))) (now (rows .entry)) ⌝ }
+    ensures { λ _. ⌜ now (keys .exit) ≡ unsorted (describes (now (w .entry))) ++ drop (keysNeeded (describes (now (w .entry)))) (now (keys .entry)) ⌝ }
 {
     let mut state = to_count();
-    walk_candidates(w, candidates, &mut state, rows);
+    walk_candidates(w, candidates, &mut state, keys);
     state[ROWS] as usize
 }

@@ -1,5 +1,5 @@
 -- What the call answers and leaves, case by case: the rows fit, they do not, or the description is refused.
-use Prim.Native.Nat.{ℕ, _*_, _≤_, _<_}
+use Prim.Native.Nat.{ℕ, _≤_, _<_}
 use mathlib.Core.Path.{_≡_, refl, sym, ap, subst}
 use mathlib.Core.Bool.{Bool, true, false, cond}
 use mathlib.Core.List.{List, _++_}
@@ -11,8 +11,7 @@ use Rattle.security.specs.Soundness.{read}
 use Rattle.survey.specs.Rows.{rows}
 use Rattle.sequences.specs.Results.{Result, ok, refused, andThen}
 use Rattle.sequences.proofs.Results.{ok-inj, ok-not-refused}
-use Rattle.whole_list.specs.WholeList.{listed, listedIn, listCall, replaced, cleared, rowsAfter, scratchAfter}
-use Rattle.survey.specs.RowWords.{needed}
+use Rattle.whole_list.specs.WholeList.{listed, needed, listedIn, listCall, replaced, cleared, rowsAfter, scratchAfter}
 
 -- what the call comes to for what Read gives
 abbrev called : Result Description → (room : ℕ) → Result (ℕ × ℕ)
@@ -41,24 +40,24 @@ pub record Left (d : Description) (room : ℕ) (answer : Result (ℕ × ℕ)) (f
 -- the rows fit, or they do not
 module _ (d : Description) (room : ℕ) where
   abbrev within : List ℕ → List ℕ → List ℕ
-  within front words = front ++ drop (needed d) words
+  within front words = front ++ drop (length front) words
 
-  pub fitting : needed d ≤ room → Left d room (ok (length (rows d), length (d .blocks))) (within (listed d)) (within (cleared d))
-  fitting h = let t = le-leb (needed d) room h in record { answers = rw t refl; rows = λ words. rw t refl; scratch = λ words. rw t refl }
+  pub fitting : length (rows d) ≤ room → Left d room (ok (length (rows d), length (d .blocks))) (within (listed d)) (within (cleared d))
+  fitting h = let t = le-leb (length (rows d)) room h in record { answers = rw t refl; rows = λ words. rw t refl; scratch = λ words. rw t refl }
 
-  pub short : room < needed d → Left d room (refused 16 (needed d)) (λ words. words) (λ words. words)
-  short h = let t = lt-leb (needed d) room h in record { answers = rw t refl; rows = λ words. rw t refl; scratch = λ words. rw t refl }
+  pub short : room < length (rows d) → Left d room (refused 16 (needed d)) (λ words. words) (λ words. words)
+  short h = let t = lt-leb (length (rows d)) room h in record { answers = rw t refl; rows = λ words. rw t refl; scratch = λ words. rw t refl }
 
 -- rows that are answered fit into the room
-pub fits-room : (s : List ℕ) (room : ℕ) (e : ℕ × ℕ) → listCall s room ≡ ok e → e .0 * 2 ≤ room
+pub fits-room : (s : List ℕ) (room : ℕ) (e : ℕ × ℕ) → listCall s room ≡ ok e → e .0 ≤ room
 unfolding listCall
 fits-room s room e = go (read s)
   where
-    fits : (d : Description) (b : Bool) → leb (needed d) room ≡ b
-        → cond b (ok (length (rows d), length (d .blocks))) (refused 16 (needed d)) ≡ ok e → e .0 * 2 ≤ room
-    fits d true t h = subst (λ x. x .0 * 2 ≤ room) (ok-inj h) (leb-true (needed d) room t)
+    fits : (d : Description) (b : Bool) → leb (length (rows d)) room ≡ b
+        → cond b (ok (length (rows d), length (d .blocks))) (refused 16 (needed d)) ≡ ok e → e .0 ≤ room
+    fits d true t h = subst (λ x. x .0 ≤ room) (ok-inj h) (leb-true (length (rows d)) room t)
     fits d false t h = absurd (ok-not-refused (sym h))
 
-    go : (r : Result Description) → called r room ≡ ok e → e .0 * 2 ≤ room
-    go (ok d) h = fits d (leb (needed d) room) refl h
+    go : (r : Result Description) → called r room ≡ ok e → e .0 ≤ room
+    go (ok d) h = fits d (leb (length (rows d)) room) refl h
     go (refused number place) h = absurd (ok-not-refused (sym h))

@@ -1,3 +1,4 @@
 pub mod Answers
+pub mod Billed
 pub mod Refusals
 pub mod Sorted

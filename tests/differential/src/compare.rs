@@ -3,14 +3,14 @@
 use std::fmt::Debug;
 
 use panel::{Cursor, Placement as Placed, calls as engine};
-use reference::calls as by_definition;
+use reference::calls::{self as by_definition, ROW_WORDS, SCRATCH_WORDS};
 use reference::description::{Description, Refusal, read};
 use reference::random::Random;
-use reference::rules::{Placement, Row};
+use reference::rules::{Placement, Priced, Row};
 
 use crate::generate::Kind;
 use crate::lent::{Checked, Lent};
-use crate::operands::{cursor, placement, room};
+use crate::operands::{cursor, placement, room, rooms};
 use crate::tally::{Call, Tally};
 use crate::wrapped;
 
@@ -27,9 +27,9 @@ const RARELY: u64 = 100;
 /// One input of so many is put to the wrapper's types as well.
 const WRAPPED: usize = 20;
 
-/// What always holds the transfers, and the rows.
+/// What always holds the transfers, and the rows with the scratch to sort them.
 const ENOUGH_BYTES: usize = 128;
-const ENOUGH_WORDS: usize = 131_072;
+const ENOUGH_WORDS: [usize; 2] = [327_680, 131_072];
 
 /// A description, and what the reference makes of it.
 pub struct Input<'a> {
@@ -113,6 +113,7 @@ impl<'a> Input<'a> {
             ("65,536 walked", candidates == 65_536 && walks),
             ("no candidates", candidates == 0),
             ("no rows", walks && candidates > 0 && self.rows.is_empty()),
+            ("three amounts", self.rows.iter().any(has_three_amounts)),
         ];
         for (name, _) in shown.into_iter().filter(|(_, holds)| *holds) {
             self.tally.shown(name);
@@ -208,16 +209,16 @@ impl<'a> Input<'a> {
 
     fn draw(&mut self) -> Agreed {
         let cursor = cursor(self.random, &self.rows);
-        let mut answer = Lent::<u64>::new(self.random, 2);
+        let mut answer = Lent::<u64>::new(self.random, 5);
         let mut clouds = Lent::<u8>::new(self.random, 16);
         let reference = self.described().map(|_| {
             let row = by_definition::draw(&self.rows, cursor);
-            let (cost, placement) = row.map_or((0, [0; 16]), |row| (row.cost, row.placement));
-            answer.expect(&[u64::from(row.is_some()), cost]);
-            clouds.expect(&placement);
+            let words = |row: Row| [1, row.cost, row.storage, row.transfer, row.cpu];
+            answer.expect(&row.map_or([0; 5], words));
+            clouds.expect(&row.map_or([0; 16], |row| row.placement));
             if row.is_some() { "row" } else { "finished" }
         });
-        let past = cursor.map_or(Cursor::Start, |Row { cost, placement }| Cursor::Past {
+        let past = cursor.map_or(Cursor::Start, |Priced { cost, placement }| Cursor::Past {
             cost,
             placement: Placed(placement),
         });
@@ -232,18 +233,15 @@ impl<'a> Input<'a> {
     }
 
     fn list(&mut self) -> Agreed {
-        let needed = 2 * self.rows.len();
-        let rooms = match self.random.below(3) {
-            0 => [needed; 2],
-            _ => [(); 2].map(|()| room(self.random, needed, ENOUGH_WORDS)),
-        };
+        let needed = [ROW_WORDS, SCRATCH_WORDS].map(|words| words * self.rows.len());
+        let rooms = rooms(self.random, needed, ENOUGH_WORDS);
         let [mut rows, mut scratch] = rooms.map(|room| Lent::<u64>::new(self.random, room));
         let mut extent = Lent::<u64>::new(self.random, 2);
         let reference = self.described().and_then(|described| {
             let blocks = described.blocks.len();
             let words = by_definition::list(&self.rows, blocks, rooms)?;
             rows.expect(&words);
-            scratch.expect(&vec![0; words.len()]);
+            scratch.expect(&vec![0; needed[1]]);
             extent.expect(&[self.rows.len() as u64, blocks as u64]);
             Ok(if words.is_empty() { "empty" } else { "rows" })
         });
@@ -291,6 +289,10 @@ impl<'a> Input<'a> {
              reference   {reference:?}\ndifference  {subject}"
         ))
     }
+}
+
+fn has_three_amounts(row: &Row) -> bool {
+    ![row.storage, row.transfer, row.cpu].contains(&0)
 }
 
 impl Case<'_> {

@@ -2,7 +2,7 @@
 
 use reference::description::Description;
 use reference::random::Random;
-use reference::rules::{Placement, Row};
+use reference::rules::{Placement, Priced, Row};
 
 /// A placement: of a row, a candidate, nearly one, or bytes at random.
 pub fn placement(random: &mut Random, described: Option<&Description>, rows: &[Row]) -> Placement {
@@ -46,35 +46,35 @@ fn candidate(random: &mut Random, described: &Description) -> Placement {
 }
 
 /// A cursor: the start, a row, close to one, or anything. The start is `None`.
-pub fn cursor(random: &mut Random, rows: &[Row]) -> Option<Row> {
-    let mut row = match rows {
-        [] => Row {
+pub fn cursor(random: &mut Random, rows: &[Row]) -> Option<Priced> {
+    let mut past = match rows {
+        [] => Priced {
             cost: random.below(100) as u64,
             placement: loose_placement(random),
         },
-        _ => random.pick(rows),
+        _ => random.pick(rows).priced(),
     };
     match random.below(12) {
         0 | 1 => return None,
-        2 => row.cost = row.cost.saturating_sub(1),
-        3 => row.cost += 1,
-        4 => row.placement = loose_placement(random),
+        2 => past.cost = past.cost.saturating_sub(1),
+        3 => past.cost += 1,
+        4 => past.placement = loose_placement(random),
         5 => {
             let position = random.below(16);
-            row.placement[position] = random.pick(&[0, 1, 7, 8, 255]);
+            past.placement[position] = random.pick(&[0, 1, 7, 8, 255]);
         }
         6 => {
             let any = random.word();
-            row.cost = random.pick(&[0, 1 << 53, u64::MAX, any]);
+            past.cost = random.pick(&[0, 1 << 53, u64::MAX, any]);
         }
         7 => {
-            row.cost = 0;
-            row.placement = [0; 16];
+            past.cost = 0;
+            past.placement = [0; 16];
         }
-        8 => row = rows.last().copied().unwrap_or(row),
+        8 => past = rows.last().map_or(past, Row::priced),
         _ => {}
     }
-    Some(row)
+    Some(past)
 }
 
 /// A length to lend: just what is needed, one less, nothing, more, less, or rarely so much that it
@@ -90,5 +90,18 @@ pub fn room(random: &mut Random, needed: usize, enough: usize) -> usize {
         5 => random.below(needed + 1),
         6 => needed + 1,
         _ => needed + random.below(20),
+    }
+}
+
+/// Two lengths to lend: just what is needed of both, one less of either, the one in place of the
+/// other, or each by itself.
+pub fn rooms(random: &mut Random, needed: [usize; 2], enough: [usize; 2]) -> [usize; 2] {
+    let [rows, scratch] = needed;
+    match random.below(12) {
+        0..5 => needed,
+        5 => [rows.saturating_sub(1), scratch],
+        6 => [rows, scratch.saturating_sub(1)],
+        7 => [scratch, rows],
+        _ => [0, 1].map(|part| room(random, needed[part], enough[part])),
     }
 }

@@ -64,8 +64,14 @@ fn counted(census: Census) -> panel::Census {
 }
 
 fn same_rows(found: &[panel::Row], due: &[Row]) -> bool {
-    let found = found.iter().map(|row| (row.cost(), row.placement().0));
-    found.eq(due.iter().map(|row| (row.cost, row.placement)))
+    let found = found.iter().map(|row| Row {
+        cost: row.cost(),
+        placement: row.placement().0,
+        storage: row.storage(),
+        transfer: row.transfer(),
+        cpu: row.cpu(),
+    });
+    found.eq(due.iter().copied())
 }
 
 fn same_transfers(wrapped: &panel::Description, described: &Description, row: &Row) -> bool {

@@ -1,8 +1,8 @@
 //! The calls that an accepted description answers (docs/FORMAT.md, sections 5 and 6).
 
 use crate::description::{Description, Edge, Refusal, Way};
-use crate::options::sorted_rows;
-use crate::rules::{Placement, Row};
+use crate::options::sorted_options;
+use crate::rules::{Placement, Priced, Row};
 
 #[derive(Clone, Copy, Debug, PartialEq, Eq)]
 pub struct Census {
@@ -15,6 +15,10 @@ pub struct Census {
 
 /// Edge, datum, the cloud it leaves and the cloud it enters.
 pub type Transfer = [u8; 4];
+
+/// The words of a row in a list, and the words of scratch that List sorts it with.
+pub const ROW_WORDS: usize = 5;
+pub const SCRATCH_WORDS: usize = 2;
 
 impl Description {
     /// Refuses with 13, 14 or 15, each tested as a whole before the next.
@@ -55,7 +59,8 @@ impl Description {
             .zip(&self.edges)
             .filter_map(|(number, edge)| transfer_at(number, edge, placement))
             .collect();
-        fit(4 * transfers.len(), room)?;
+        let needed = 4 * transfers.len();
+        refuse_unless(needed <= room, needed)?;
         Ok(transfers)
     }
 
@@ -81,7 +86,8 @@ impl Description {
     }
 
     pub fn rows(&self) -> Vec<Row> {
-        sorted_rows(self)
+        let options = sorted_options(self).into_iter();
+        options.map(|priced| self.row(priced)).collect()
     }
 }
 
@@ -95,29 +101,38 @@ fn transfer_at(number: u8, edge: &Edge, placement: &Placement) -> Option<Transfe
     (leaves != enters).then_some([number, edge.datum as u8, leaves, enters])
 }
 
-fn fit(needed: usize, room: usize) -> Result<(), Refusal> {
-    if room < needed {
-        return Err(Refusal {
-            number: 16,
-            place: needed,
-        });
+/// What is lent must fit; the refusal says what is needed.
+fn refuse_unless(fits: bool, needed: usize) -> Result<(), Refusal> {
+    if fits {
+        return Ok(());
     }
-    Ok(())
+    Err(Refusal {
+        number: 16,
+        place: needed,
+    })
 }
 
 /// The first of the sorted rows that is strictly later than the cursor; the start is `None`.
-pub fn draw(rows: &[Row], cursor: Option<Row>) -> Option<Row> {
-    let later = |row: &&Row| cursor.is_none_or(|cursor| cursor < **row);
+pub fn draw(rows: &[Row], cursor: Option<Priced>) -> Option<Row> {
+    let later = |row: &&Row| cursor.is_none_or(|cursor| cursor < row.priced());
     rows.iter().find(later).copied()
 }
 
-/// The words that List leaves at the front: for each row its cost and its packed placement.
-/// Refuses with 16 where either of two buffers has less room than that.
-pub fn list(rows: &[Row], blocks: usize, rooms: [usize; 2]) -> Result<Vec<u64>, Refusal> {
-    for room in rooms {
-        fit(2 * rows.len(), room)?;
-    }
-    let words = |row: &Row| [row.cost, packed(&row.placement[..blocks])];
+/// The words that List leaves at the front of its rows: for each the cost, the packed placement,
+/// and the amounts. Refuses with 16, and the words that the rows need, where they or the scratch
+/// are lent too few.
+pub fn list(
+    rows: &[Row],
+    blocks: usize,
+    [room, scratch_room]: [usize; 2],
+) -> Result<Vec<u64>, Refusal> {
+    let count = rows.len();
+    let fits = count <= room / ROW_WORDS && count <= scratch_room / SCRATCH_WORDS;
+    refuse_unless(fits, ROW_WORDS * count)?;
+    let words = |row: &Row| -> [u64; ROW_WORDS] {
+        let packed = packed(&row.placement[..blocks]);
+        [row.cost, packed, row.storage, row.transfer, row.cpu]
+    };
     Ok(rows.iter().flat_map(words).collect())
 }
 

@@ -3,7 +3,7 @@
 use std::collections::HashMap;
 
 use crate::description::{Description, Way};
-use crate::rules::{Placement, Row};
+use crate::rules::{Placement, Priced};
 
 /// No cloud has these numbers: they set off the lists in a key.
 const END: u8 = 255;
@@ -75,25 +75,26 @@ impl Sameness {
     }
 }
 
-/// The row of each option.
-pub fn rows_by_option(described: &Description) -> HashMap<Vec<u8>, Row> {
+/// The placement that stands for each option, with its cost.
+pub fn cheapest_by_option(described: &Description) -> HashMap<Vec<u8>, Priced> {
     let sameness = Sameness::of(described);
-    let mut rows = HashMap::new();
+    let mut cheapest = HashMap::new();
     for placement in described.candidates() {
         if described.is_secure(&placement) {
             let cost = described.cost(&placement);
-            let row = Row { cost, placement };
-            rows.entry(sameness.key(&placement))
-                .and_modify(|kept: &mut Row| *kept = row.min(*kept))
-                .or_insert(row);
+            let priced = Priced { cost, placement };
+            cheapest
+                .entry(sameness.key(&placement))
+                .and_modify(|kept: &mut Priced| *kept = priced.min(*kept))
+                .or_insert(priced);
         }
     }
-    rows
+    cheapest
 }
 
-/// All rows in their order.
-pub fn sorted_rows(described: &Description) -> Vec<Row> {
-    let mut rows: Vec<Row> = rows_by_option(described).into_values().collect();
-    rows.sort_unstable();
-    rows
+/// Those placements in the order of rows.
+pub fn sorted_options(described: &Description) -> Vec<Priced> {
+    let mut options: Vec<Priced> = cheapest_by_option(described).into_values().collect();
+    options.sort_unstable();
+    options
 }

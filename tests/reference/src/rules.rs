@@ -5,11 +5,31 @@ use crate::description::{Block, Cloud, Description, Edge, Kind, Refusal, Way};
 /// The cloud of each block, then zeros.
 pub type Placement = [u8; 16];
 
-/// Rows are ordered by cost, then by their bytes.
+/// A placement and its cost: what rows are ordered by, and a cursor, whose bytes may be any.
 #[derive(Clone, Copy, Debug, PartialEq, Eq, PartialOrd, Ord)]
+pub struct Priced {
+    pub cost: u64,
+    pub placement: Placement,
+}
+
+/// The placement of an option, its cost, and the amounts that this is made up of.
+#[derive(Clone, Copy, Debug, PartialEq, Eq)]
 pub struct Row {
     pub cost: u64,
     pub placement: Placement,
+    pub storage: u64,
+    pub transfer: u64,
+    pub cpu: u64,
+}
+
+impl Row {
+    /// What it is ordered by; the amounts play no part.
+    pub fn priced(&self) -> Priced {
+        let Row {
+            cost, placement, ..
+        } = *self;
+        Priced { cost, placement }
+    }
 }
 
 impl Cloud {
@@ -108,13 +128,37 @@ impl Description {
     }
 
     pub fn cost(&self, placement: &Placement) -> u64 {
+        self.standing(placement, |_| true) + self.moving(placement)
+    }
+
+    /// The placement with its cost, and with each amount as a sum of its own.
+    pub fn row(&self, priced: Priced) -> Row {
+        let Priced { cost, placement } = priced;
+        Row {
+            cost,
+            placement,
+            storage: self.standing(&placement, Block::is_datum),
+            transfer: self.moving(&placement),
+            cpu: self.standing(&placement, |block| !block.is_datum()),
+        }
+    }
+
+    /// What some of the blocks are charged where they stand: data for storage, services for cpu.
+    fn standing(&self, placement: &Placement, counts: impl Fn(&Block) -> bool) -> u64 {
         let blocks = self.blocks.iter().zip(placement);
-        let standing = blocks.map(|(b, &c)| self.clouds[usize::from(c)].charge(b));
-        let moving = self.edges.iter().map(|e| {
-            let [service, datum] = e.ends(placement);
-            self.transfer(e, service, datum)
-        });
-        standing.sum::<u64>() + moving.sum::<u64>()
+        blocks
+            .filter(|(block, _)| counts(block))
+            .map(|(block, &cloud)| self.clouds[usize::from(cloud)].charge(block))
+            .sum()
+    }
+
+    /// What all transfers are charged.
+    fn moving(&self, placement: &Placement) -> u64 {
+        let charge = |edge: &Edge| {
+            let [service, datum] = edge.ends(placement);
+            self.transfer(edge, service, datum)
+        };
+        self.edges.iter().map(charge).sum()
     }
 }
 

@@ -1,15 +1,20 @@
-//! The stored cases of `callcases`, whose answers come from `tests/bruteforce.py`: two
-//! implementations that share nothing but the definitions.
+//! The stored cases of `callcases` and the examples, whose answers come from
+//! `tests/bruteforce.py`: two implementations that share nothing but the definitions.
 
 use std::collections::HashMap;
 use std::fmt::Write;
 
-use reference::calls::draw;
+use reference::calls::{draw, list};
 use reference::description::{Description, Refusal, read};
-use reference::rules::{Placement, Row};
+use reference::rules::{Placement, Priced, Row};
 
 const CASES: &[u8] = include_bytes!("../../../crates/callcases/stdin");
 const LINES: &str = include_str!("../../../crates/callcases/stdout");
+
+const INTERVIEW: &[u8] = include_bytes!("../../../examples/interview.bin");
+const INTERVIEW_LIST: &str = include_str!("../../../examples/interview.expected");
+const SECOND: &[u8] = include_bytes!("../../../examples/second.bin");
+const SECOND_LIST: &str = include_str!("../../../examples/second.expected");
 
 /// The buffer of a Transfers is full of these at first.
 const UNTOUCHED: u8 = 0xA5;
@@ -69,17 +74,22 @@ fn answer(letter: u8, text: &[u8], operands: &[u8], lists: &mut Lists) -> Result
 }
 
 fn drawn(rows: &[Row], operands: &[u8]) -> String {
-    let cursor = (operands[0] == 1).then(|| Row {
+    let cursor = (operands[0] == 1).then(|| Priced {
         cost: number(&operands[1..9]) as u64,
         placement: placement(&operands[9..]),
     });
     match draw(rows, cursor) {
         None => "finished".into(),
-        Some(row) => {
-            let digits: String = row.placement.iter().map(|c| c.to_string()).collect();
-            format!("row {} {digits}", row.cost)
-        }
+        Some(row) => format!("row {}", shown(&row, 16)),
     }
+}
+
+/// The row with the clouds of so many blocks, as the programs print it.
+fn shown(row: &Row, blocks: usize) -> String {
+    let clouds = row.placement[..blocks].iter();
+    let digits: String = clouds.map(|cloud| cloud.to_string()).collect();
+    let [storage, transfer, cpu] = [row.storage, row.transfer, row.cpu];
+    format!("{} {digits} {storage} {transfer} {cpu}", row.cost)
 }
 
 /// The line, and behind it the buffer as the call leaves it.
@@ -118,4 +128,32 @@ fn the_stored_cases_are_answered_alike() {
         assert_eq!(Some(line.as_str()), lines.next(), "{letter} {text:02x?}");
     }
     assert_eq!(lines.next(), None);
+    for row in lists.values().flatten() {
+        assert_eq!(row.cost, row.storage + row.transfer + row.cpu, "{row:?}");
+    }
+}
+
+#[test]
+fn the_examples_are_listed_as_stored() {
+    for (text, list) in [(INTERVIEW, INTERVIEW_LIST), (SECOND, SECOND_LIST)] {
+        let described = read(text).expect("the description is accepted");
+        let (rows, blocks) = (described.rows(), described.blocks.len());
+        let lines: String = rows.iter().map(|row| shown(row, blocks) + "\n").collect();
+        assert_eq!(format!("{lines}options {}\n", rows.len()), list);
+    }
+}
+
+#[test]
+fn a_row_takes_five_words_and_two_of_scratch() {
+    let rows = read(INTERVIEW).expect("the description is accepted").rows();
+    let words = list(&rows, 5, [30, 12]).expect("six rows fit");
+    assert_eq!(words.len(), 30);
+    assert_eq!(words[5..10], [2840, 0o11110, 1320, 20, 1500]);
+    let refusal = Refusal {
+        number: 16,
+        place: 30,
+    };
+    for rooms in [[29, 12], [30, 11], [12, 30], [0, 0]] {
+        assert_eq!(list(&rows, 5, rooms), Err(refusal));
+    }
 }

@@ -18,7 +18,8 @@ unfolding text
 returns c =
     let start = c .before in
     let line = start .args .line in
-    (stored (line .bytes) (line .start) (start .args .byte) (start .pre .0) (omega (arith, simp length-map at (start .good .1 .0 .1 .1 .0 .1 .0 .1))), omega arith)
+    let size = simp length-map at (start .good .1 .0 .1 .1 .0 .1 .0 .1) in
+    (stored (line .bytes) (line .start) (start .args .byte) (start .pre .0) (omega arith), omega arith)
 
 pub byte-before-spec : {M : Type 1} → statement M
 byte-before-spec = tie.close (tie.spec sub-at element-write-longer returns)

@@ -25,9 +25,12 @@ same-length c = search needs
 returns : tie.Need-returns
 returns c =
     let call = c .before .before in
-    let start = call .before .before .before .before .before .before .before .before in
+    let word = call .before .before in
+    let number = word .before in
+    let end = number .before in
+    let start = end .before .before .before .before in
     let args = start .args in
-    let made = options-made (args .count) _ _ _ (call .before .before .before .before .newline .ensures .0) (call .before .before .before .decimal-before .ensures .0) (call .before .before .word-before .ensures .0) in (
+    let made = options-made (args .count) _ _ _ (end .newline .ensures .0) (number .decimal-before .ensures .0) (word .word-before .ensures .0) in (
       call .put .ensures .0 ∙ ap (λ l. placedEnd l (args .buffer .now) (args .at)) made,
       (call .put .ensures .1 ∙ ap (λ l. placed l (args .buffer .now) (args .at)) made, sizes .options (args .count) (start .fits .count .fits) .few),
     )

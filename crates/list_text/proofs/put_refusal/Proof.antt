@@ -31,11 +31,22 @@ same-length c = search needs
 returns : tie.Need-returns
 returns c =
     let call = c .before .before in
-    let start = call .before .before .before .before .before .before .before .before .before .before in
+    let word = call .before .before in
+    let number = word .before in
+    let space = number .before .before .before in
+    let place = space .before in
+    let end = place .before in
+    let start = end .before .before in
     let args = start .args in
-    let made = refusal-made (args .number) (args .place) _ _ _ _ _ (call .before .before .before .before .before .before .before .before .newline .ensures .0) (call .before .before .before .before .before .before .before .decimal-before .ensures .0) (call .before .before .before .before .before .before .byte-before .ensures .0) (call .before .before .before .decimal-before2 .ensures .0) (call .before .before .word-before .ensures .0) in (
+    let e₁ = end .newline .ensures .0 in
+    let e₂ = place .decimal-before .ensures .0 in
+    let e₃ = space .byte-before .ensures .0 in
+    let e₄ = number .decimal-before2 .ensures .0 in
+    let e₅ = word .word-before .ensures .0 in
+    let size = sizes .refusal (args .number) (args .place) (start .fits .number .fits) (start .fits .place .fits) in
+    let made = refusal-made (args .number) (args .place) _ _ _ _ _ e₁ e₂ e₃ e₄ e₅ in (
       call .put .ensures .0 ∙ ap (λ l. placedEnd l (args .buffer .now) (args .at)) made,
-      (call .put .ensures .1 ∙ ap (λ l. placed l (args .buffer .now) (args .at)) made, sizes .refusal (args .number) (args .place) (start .fits .number .fits) (start .fits .place .fits) .few),
+      (call .put .ensures .1 ∙ ap (λ l. placed l (args .buffer .now) (args .at)) made, size .few),
     )
 
 pub put-refusal-spec : {M : Type 1} → statement M

@@ -37,9 +37,10 @@ loop-less c = omega arith
 loop-again : tie.Need-loop-again Inv-loop μ-loop
 loop-again c =
     let args = c .before .before .before .args in
-    let w = c .before .before .loop in (
+    let w = c .before .before .loop in
+    let longer = text (c .byte-before .result) in (
       omega arith,
-      one-before (args .t1) (w .k) 0 (text (args .line)) (text (w .longer)) (text (c .byte-before .result)) (omega arith) (omega arith) (w .inv .1) (c .byte-before .ensures .0),
+      one-before (args .t1) (w .k) 0 (text (args .line)) (text (w .longer)) longer (omega arith) (omega arith) (w .inv .1) (c .byte-before .ensures .0),
       omega arith,
       omega arith,
     )

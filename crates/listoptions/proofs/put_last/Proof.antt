@@ -1,14 +1,15 @@
 -- Each kind of answer has its last line, for which 33 bytes are enough.
 use Prim.Native.Nat.{ℕ, _+_, _≤_}
-use mathlib.Core.Path.{_≡_, sym, ap, subst}
+use mathlib.Core.Path.{_≡_, sym, ap, subst, _∙_}
 use mathlib.Core.List.{List}
+use native.Mathlib.Nat.{zero-add}
 use native.Mathlib.Omega.{arith}
 use lib.ListN.{length}
 use borrow.Author.Needs.{needs}
 use borrow.Author.Tests.{le-leb}
 use Rattle.sequences.specs.Results.{Result}
 use Rattle.whole_list.specs.WholeList.{listAnswer}
-use Rattle.list_text.specs.Lines.{placed, placedEnd, written}
+use Rattle.list_text.specs.Lines.{optionsLine, refusalLine, placed, placedEnd, written}
 use Rattle.listoptions.specs.Making.{lastLine}
 use Rattle.listoptions.proofs.put_last.Statement.{statement}
 use Rattle.listoptions.proofs.put_last.Tie as tie
@@ -45,7 +46,11 @@ returns c =
     let p = c .before .before .put-options in
     let s = c .before .before .before .before .before .before .before .before in
     let listed = c .before .before .before .before .before .listed .given in
-    answered (s .args .text .now) (p .last .1 .0) (s .args .at) (p .result) (ap listAnswer (listed .1)) (fitted _ (s .args .text .now) (p .last .1 .0) (s .args .at) (p .result) 29 (s .pre) (omega arith) (p .ensures .0, p .ensures .1 .0, p .ensures .1 .1))
+    let text = s .args .text .now in
+    let after = p .last .1 .0 in
+    let (end, bytes) = answered text after 0 (p .result) (ap listAnswer (listed .1))
+    (fitted (optionsLine (listed .0 .0 .rows)) text after 0 (p .result) 29 (omega arith) (omega arith) (p .ensures .0, p .ensures .1 .0, p .ensures .1 .1)) in
+    (end ∙ zero-add _, bytes)
 
 same-length-2 : tie.Need-same-length-2
 same-length-2 c = search needs
@@ -55,7 +60,11 @@ returns-2 c =
     let p = c .before .before .put-refusal in
     let s = c .before .before .before .before .before .before .before .before in
     let listed = c .before .before .before .before .before .listed2 .given in
-    answered (s .args .text .now) (p .last .1 .1 .0) (s .args .at) (p .result) (ap listAnswer (listed .1)) (fitted _ (s .args .text .now) (p .last .1 .1 .0) (s .args .at) (p .result) 33 (s .pre) (omega arith) (p .ensures .0, p .ensures .1 .0, p .ensures .1 .1))
+    let text = s .args .text .now in
+    let after = p .last .1 .1 .0 in
+    let (end, bytes) = answered text after 0 (p .result) (ap listAnswer (listed .1))
+    (fitted (refusalLine (listed .0 .0 .number) (listed .0 .0 .place)) text after 0 (p .result) 33 (omega arith) (omega arith) (p .ensures .0, p .ensures .1 .0, p .ensures .1 .1)) in
+    (end ∙ zero-add _, bytes)
 
 pub put-last-spec : {M : Type 1} → statement M
 put-last-spec =

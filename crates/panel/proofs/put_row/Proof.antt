@@ -21,21 +21,21 @@ refusal-status-requires c κs = search needs
 
 returns : tie.Need-returns
 returns c =
-    let s = c .before .before .before .before .before .args in
+    let s = c .before .before .before .before .before .before .args in
     let e = ap (λ a. answerOf a (s .drawn .row)) (c .before .enum-told .given .1) in
     let (h, k) = told rowOrNone (s .answer .now) (sym e) (refl, refl) in
     (h, (k, told rowBytes (s .row .now) (sym e) (refl, refl) .1))
 
 returns-2 : tie.Need-returns-2
 returns-2 c =
-    let s = c .before .before .before .before .before .before .args in
+    let s = c .before .before .before .before .before .before .before .args in
     let e = ap (λ a. answerOf a (s .drawn .row)) (c .before .before .enum-told2 .given .1) in
     let (h, k) = told rowOrNone (s .answer .now) (sym e) (refl, refl) in
     (h, (k, told rowBytes (s .row .now) (sym e) (refl, refl) .1))
 
 returns-3 : tie.Need-returns-3
 returns-3 c =
-    let s = c .before .before .before .before .before .before .args in
+    let s = c .before .before .before .before .before .before .before .args in
     let e = ap (λ a. answerOf a (s .drawn .row)) (c .before .before .told .given .1) in
     let (h, k) = told rowOrNone (s .answer .now) (sym e) (c .refusal-status .ensures, refl) in
     (h, (k, told rowBytes (s .row .now) (sym e) (c .refusal-status .ensures, refl) .1))

@@ -31,9 +31,9 @@ returns c =
     let s = counting .before .before in
     let d = describes (s .args .w .now) in
     let asked = counting .to-count .ensures in
-    let rows = s .args .rows .now in (
+    let keys = s .args .keys .now in (
       counted-by d (s .pre .0) (seen .last .1 .1 .0) (seen .ensures .0 ∙ ap (seenOf d) asked) .options ∙ sym (options-number d),
-      seen .ensures .1 ∙ ap (λ state. keptOf d state rows) asked ∙ walk-keeps d (s .pre .0) rows (s .pre .1 .1),
+      seen .ensures .1 ∙ ap (λ state. keptOf d state keys) asked ∙ walk-keeps d (s .pre .0) keys (s .pre .1 .1),
     )
 
 pub keep-rows-spec : {M : Type 1} → statement M

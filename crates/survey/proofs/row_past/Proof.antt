@@ -1,16 +1,19 @@
 -- The row that the walk kept is the row that the draw answers.
-use Prim.Native.Nat.{_-_, _^_, _<_}
+use Prim.Native.Nat.{_-_}
 use native.Mathlib.Omega.{arith}
 use mathlib.Core.Path.{sym, ap, subst, _∙_}
 use mathlib.Core.List.{_++_}
+use mathlib.Core.Option.{some}
 use lib.ListN.{getD, replicate}
 use Rattle.description.specs.Meaning.{describes}
+use Rattle.costs.specs.declared.answers.Bill.{Bill}
 use Rattle.packing.specs.Packing.{digits}
-use Rattle.visit.specs.Visits.{bestPlaceAt}
+use Rattle.visit.specs.Visits.{bestCostAt, bestPlaceAt}
+use Rattle.survey.specs.declared.Row.{Row}
 use Rattle.survey.specs.Answers.{rowIn, rowOr}
 use Rattle.survey.specs.Rows.{draw}
 use Rattle.survey.specs.Surveys.{Asks}
-use Rattle.survey.proofs.Joins.{starts, KeptRow, kept-by, none-kept, some-kept, kept-low}
+use Rattle.survey.proofs.Joins.{starts, KeptRow, kept-by, none-kept, some-kept}
 use borrow.Author.Needs.{needs}
 use Rattle.survey.proofs.row_past.Statement.{statement}
 use Rattle.survey.proofs.row_past.Tie as tie
@@ -57,33 +60,33 @@ returns c =
     let e = none-kept d (draw d (a .cursor)) (seen .walk-candidates .last .1 .1 .0) (kept seen) (c .before .if1 .taken) in
     (ap rowIn (c .no-row .ensures) ∙ sym e, ap (λ x. x .row) (c .no-row .ensures) ∙ ap rowOr (sym e))
 
-array-read-t14 : tie.Need-array-read-t14
-array-read-t14 c = search needs
-
 array-read-unpacked : tie.Need-array-read-unpacked
 array-read-unpacked c = search needs
 
 unpacked-requires : tie.Need-unpacked-requires
-unpacked-requires c κs =
-    let seen = c .before .before in
-    let words = seen .walk-candidates .last .1 .1 .0 in
-    let blocks = seen .before .before .before .before .block-count in
-    let a = seen .before .before .before .before .before .args in
-    let d = describes (a .w .now) in
-    let low = kept-low d (draw d (a .cursor)) words (kept seen) (c .if1 .left) in
-    (omega (arith, blocks .ensures .1), subst (λ n. getD words bestPlaceAt 0 < 8 ^ n) (sym (blocks .ensures .0)) low)
+unpacked-requires c κs = omega (arith, c .before .before .before .before .before .before .block-count .ensures .1)
+
+bill-of-requires : tie.Need-bill-of-requires
+bill-of-requires c κs = search needs
+
+array-read-t16 : tie.Need-array-read-t16
+array-read-t16 c = search needs
 
 returns-2 : tie.Need-returns-2
 returns-2 c =
-    let seen = c .before .before .before in
+    let unpacked = c .before in
+    let seen = unpacked .before .before .before in
     let words = seen .walk-candidates .last .1 .1 .0 in
     let place = getD words bestPlaceAt 0 in
     let blocks = seen .before .before .before .before .block-count in
     let a = seen .before .before .before .before .before .args in
     let d = describes (a .w .now) in
-    let bytes = c .unpacked .ensures ∙ ap (λ n. digits n place ++ replicate (16 - n) 0) (blocks .ensures .0) in
-    let e = some-kept d (draw d (a .cursor)) words (kept seen) (c .before .if1 .left) (c .unpacked .result) bytes in
-    (sym e, ap rowOr (sym e))
+    let bytes = unpacked .unpacked .result in
+    let are = unpacked .unpacked .ensures ∙ ap (λ n. digits n place ++ replicate (16 - n) 0) (blocks .ensures .0) in
+    let e = some-kept d (draw d (a .cursor)) words (kept seen) (unpacked .before .if1 .left) bytes are in
+    let row : Bill → Row = λ bill. record { cost = getD words bestCostAt 0; placement = bytes; bill = bill } in
+    let drawn = ap (λ bill. some (row bill)) (c .bill-of .ensures .0) ∙ sym e in
+    (drawn, ap rowOr drawn)
 
 pub row-past-spec : {M : Type 1} → statement M
 row-past-spec =
@@ -96,7 +99,8 @@ row-past-spec =
     array-read-if1
     no-row-requires
     returns
-    array-read-t14
     array-read-unpacked
     unpacked-requires
+    bill-of-requires
+    array-read-t16
     returns-2)

@@ -2,12 +2,12 @@
 use mathlib.Core.Path.{sym, ap, _∙_}
 use Prim.Native.Nat.{ℕ, _-_}
 use mathlib.Core.Bool.{Bool, _||_, _&&_}
-use mathlib.Core.List.{List, _++_}
+use mathlib.Core.List.{List, _∷_, _++_}
 use lib.Dec.{ltb, eqb}
 use lib.ListN.{replicate}
 use Rattle.packing.specs.Packing.{pack}
+use Rattle.sequences.specs.Lists.{before}
 use Rattle.survey.specs.declared.Cursor.{Cursor}
-use Rattle.survey.specs.Rows.{earlier}
 use Rattle.survey.proofs.Cursors.{turned, lowest}
 use borrow.Author.Needs.{needs}
 use Rattle.survey.proofs.to_draw_past.Statement.{statement}
@@ -16,7 +16,7 @@ use Rattle.survey.proofs.to_draw_past.Tie as tie
 -- a row of n blocks is past a cursor at the start, or behind the cursor's cost and bytes
 abbrev behind : Cursor → (n cost : ℕ) → List ℕ → Bool → Bool
 behind c n cost q start =
-    start || earlier (record { cost = c .cost; placement = c .placement }) (record { cost = cost; placement = q ++ replicate (16 - n) 0 })
+    start || before (c .cost ∷ c .placement) (cost ∷ (q ++ replicate (16 - n) 0))
 
 to-draw-requires : tie.Need-to-draw-requires
 to-draw-requires c κs = search needs

@@ -1,5 +1,4 @@
 -- The list of what is accepted; a refusal is passed on.
-use Prim.Native.Nat.{min}
 use mathlib.Core.Path.{sym, _∙_}
 use lib.ListN.{length}
 use Rattle.description.specs.Bytes.{Bytes}
@@ -7,6 +6,7 @@ use Rattle.description.specs.Meaning.{describes}
 use Rattle.security.specs.Soundness.{read}
 use Rattle.security.proofs.Accepted.{read-admitted}
 use Rattle.judging.proofs.Admissions.{Counted, is-accepted, is-refused}
+use Rattle.whole_list.specs.WholeList.{capacity}
 use Rattle.whole_list.proofs.Answers.{call-goes, rows-go, scratch-goes}
 use borrow.Author.Needs.{needs}
 use Rattle.whole_list.proofs.list.Statement.{statement}
@@ -53,7 +53,7 @@ returns c =
     let admission = list .before .before .before .before .before in
     let a = admission .before .before .before .before .before .before .before .args in
     let s = a .description .now in
-    let room = min (length (a .rows .now)) (length (a .scratch .now)) in
+    let room = capacity (length (a .rows .now)) (length (a .scratch .now)) in
     let gives = counted admission .accepted in
     let left = list .list-accepted .ensures in (
       left .0 ∙ sym (call-goes s room gives),
@@ -65,7 +65,7 @@ returns-2 c =
     let accept = c .before .before .before in
     let a = accept .before .before .before .before .before .args in
     let s = a .description .now in
-    let room = min (length (a .rows .now)) (length (a .scratch .now)) in
+    let room = capacity (length (a .rows .now)) (length (a .scratch .now)) in
     let told = c .before .admission2 .given in
     let gives = is-refused (describes (accept .accept .last .1 .0)) (read s) (accept .accept .ensures .0) (told .0 .0) (told .1) in
     (sym (call-goes s room gives), (sym (rows-go s room gives (a .rows .now)), sym (scratch-goes s room gives (a .scratch .now))))

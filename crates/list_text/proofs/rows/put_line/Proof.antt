@@ -1,77 +1,61 @@
 -- Each part of the line is written behind the one before it.
-use Prim.Native.Nat.{_+_}
 use native.Mathlib.Omega.{arith}
 use borrow.Author.Needs.{needs}
-use mathlib.Core.Path.{_≡_, _∙_}
-use lib.ListN.{length, length-set}
-use Rattle.list_text.proofs.RowLines.{line-made, line-length}
+use lib.ListN.{length-set}
+use Rattle.list_text.specs.Lines.{amountText}
+use Rattle.list_text.specs.RowLines.{frontText}
+use Rattle.list_text.proofs.RowLines.{line-parts, front-length}
+use Rattle.list_text.proofs.Writing.{Put, then-put, then-byte}
 use Rattle.list_text.proofs.rows.put_line.Statement.{statement}
 use Rattle.list_text.proofs.rows.put_line.Tie as tie
 
-places-requires : tie.Need-places-requires
-places-requires c κs = search needs
+put-front-requires : tie.Need-put-front-requires
+put-front-requires c κs = search needs
 
-put-cost-requires : tie.Need-put-cost-requires
-put-cost-requires c κs = search needs
+put-amount-requires : tie.Need-put-amount-requires
+put-amount-requires c κs = omega arith
 
-add-space : tie.Need-add-space
-add-space c = search needs
+put-amount-requires-2 : tie.Need-put-amount-requires-2
+put-amount-requires-2 c κs = omega arith
+
+put-amount-requires-3 : tie.Need-put-amount-requires-3
+put-amount-requires-3 c κs = omega arith
 
 slice-write-buffer : tie.Need-slice-write-buffer
-slice-write-buffer c = search needs
-
-add-put-clouds : tie.Need-add-put-clouds
-add-put-clouds c = search needs
-
-put-clouds-requires : tie.Need-put-clouds-requires
-put-clouds-requires c κs = simp length-set (omega arith)
-
-add-newline : tie.Need-add-newline
-add-newline c = search needs
-
-add-newline-2 : tie.Need-add-newline-2
-add-newline-2 c = search needs
-
--- the buffer keeps its length
-same : (c : tie.After-slice-known3)
-    → length (c .before .before .put-clouds .last .1 .1 .0) ≡ length (c .before .before .before .before .before .before .before .before .before .before .args .buffer .now)
-same c =
-    let called = c .before .before .before .before .before .before in
-    let args = called .before .before .before .before .args in
-    c .before .before .put-clouds .kept .1 .1 .0 ∙ length-set (called .put-cost .last .1 .1 .0) (args .at + called .before .before .places .result) 32 ∙
-    called .put-cost .kept .1 .1 .0
-
-slice-write-buffer-2 : tie.Need-slice-write-buffer-2
-slice-write-buffer-2 c = let s = same c in omega arith
+slice-write-buffer c = omega arith
 
 add-result : tie.Need-add-result
-add-result c = search needs
+add-result c = omega arith
 
 same-length : tie.Need-same-length
-same-length c = length-set (c .before .before .put-clouds .last .1 .1 .0) _ 10 ∙ same c
+same-length c = simp length-set (omega arith)
 
 returns : tie.Need-returns
 returns c =
-    let called = c .before .before .before .before .before .before in
-    let args = called .before .before .before .before .args in
-    let l = line-length (args .blocks) (args .cost) (args .place) in (
-      omega arith,
-      line-made (args .blocks) (args .cost) (args .place) (args .at) (called .before .before .places .result) (args .buffer .now) (called .put-cost .last .1 .1 .0) (c .before .before .put-clouds .last .1 .1 .0) (called .before .before .places .ensures .0) (omega arith) (called .put-cost .ensures) (c .before .before .put-clouds .ensures),
-    )
+    let cpu = c .before .before in
+    let transfer = cpu .before .before .before .before in
+    let storage = transfer .before .before .before .before in
+    let front = storage .before .before .before .before in
+    let args = front .before .before .before .args in
+    let text = frontText (args .blocks) (args .cost) (args .place) in
+    let n = front-length (args .blocks) (args .cost) (args .place) in
+    let p₀ : Put text (args .buffer .now) (front .put-front .last .1 .1 .1 .0) (args .at) (front .put-front .result) =
+    record { ends = omega arith; bytes = front .put-front .ensures .1 } in
+    let p₁ = then-put p₀ (amountText (args .storage)) (omega arith) (storage .put-amount .ensures .0) (storage .put-amount .ensures .1) in
+    let p₂ = then-put p₁ (amountText (args .transfer)) (omega arith) (transfer .put-amount2 .ensures .0) (transfer .put-amount2 .ensures .1) in
+    let p₃ = then-put p₂ (amountText (args .cpu)) (omega arith) (cpu .put-amount3 .ensures .0) (cpu .put-amount3 .ensures .1) in
+    let line = then-byte p₃ 10 (omega arith) in
+    rw line-parts (line .ends, line .bytes)
 
 pub put-line-spec : {M : Type 1} → statement M
 put-line-spec =
     tie.close
     (tie.spec
-    places-requires
-    put-cost-requires
-    add-space
+    put-front-requires
+    put-amount-requires
+    put-amount-requires-2
+    put-amount-requires-3
     slice-write-buffer
-    add-put-clouds
-    put-clouds-requires
-    add-newline
-    add-newline-2
-    slice-write-buffer-2
     add-result
     same-length
     returns)

@@ -1,20 +1,20 @@
--- Row by row: the lines of the rows before the next one stand in the buffer, and each row that is left has 38 bytes.
+-- Row by row: the lines of the rows before the next one stand in the buffer, and there is room for the lines of the rows that are left.
 use Prim.Native.Nat.{ℕ, _+_, _-_, _*_, _≤_}
 use native.Mathlib.Omega.{arith}
 use borrow.Author.Needs.{needs}
-use mathlib.Core.Path.{_≡_, refl, sym, ap, ap₂, _∙_}
-use lib.ListN.{length, getD, take, length-append}
+use mathlib.Core.Path.{_≡_, refl, ap, ap₂, _∙_}
+use mathlib.Core.List.{List}
+use lib.ListN.{length, getD, take}
 use Rattle.list_text.specs.Lines.{written}
-use Rattle.list_text.specs.RowLines.{wordsLine, linesOf, fitting}
-use Rattle.list_text.proofs.RowLines.{next-row, row-lines}
-use Rattle.list_text.proofs.Writing.{then-text, written-length}
+use Rattle.list_text.specs.RowLines.{wordsOfRow, bytesOfLine, linesOf, fitting}
+use Rattle.list_text.proofs.RowLines.{lineAt, line-length, line-few, next-row}
+use Rattle.list_text.proofs.Writing.{Put, then-put, written-length}
 use Rattle.list_text.proofs.rows.put_rows.Statement.{statement}
 use Rattle.list_text.proofs.rows.put_rows.Tie as tie
 
 abbrev Inv-loop : tie.InvT-loop
 Inv-loop words blocks buffer₀ digits stop next₀ end₀ buffer next end =
-    (next ≤ stop) × (end + 38 * (stop - next) ≤ length buffer₀) ×
-    (end ≡ length (linesOf digits (take (next * 2) words))) × (buffer ≡ written (linesOf digits (take (next * 2) words)) buffer₀ 0)
+    (next ≤ stop) × (end + bytesOfLine * (stop - next) ≤ length buffer₀) × Put (linesOf digits (take (next * wordsOfRow) words)) buffer₀ buffer 0 end
 
 abbrev μ-loop : tie.MeasureT-loop
 μ-loop words blocks buffer₀ digits stop next₀ end₀ buffer next end = stop - next
@@ -23,8 +23,17 @@ abbrev μ-loop : tie.MeasureT-loop
 same : (c : tie.At-loop Inv-loop μ-loop) → length (c .loop .buffer) ≡ length (c .before .before .before .before .before .args .buffer .now)
 same c =
     let args = c .before .before .before .before .before .args in
-    let text = linesOf (c .before .before .positions .result) (take (c .loop .next * 2) (args .words .now)) in
-    ap length (c .loop .inv .3) ∙ written-length text (args .buffer .now) 0 (omega arith)
+    let text = linesOf (c .before .before .positions .result) (take (c .loop .next * wordsOfRow) (args .words .now)) in
+    ap length (c .loop .inv .2 .bytes) ∙ written-length text (args .buffer .now) 0 (omega arith)
+
+-- the line of the next row has no more bytes than a line can have
+abbrev line : tie.At-loop Inv-loop μ-loop → List ℕ
+line c = lineAt (c .before .before .positions .result) (c .before .before .before .before .before .args .words .now) (c .loop .next * wordsOfRow)
+
+few : (c : tie.At-loop Inv-loop μ-loop) → length (line c) ≤ bytesOfLine
+few c =
+    let known = c .before .before .before .before in
+    line-few _ (known .before .args .words .now) (c .loop .next * wordsOfRow) (omega arith) (λ k. known .shared-slice-known .given k .fits)
 
 positions-requires : tie.Need-positions-requires Inv-loop μ-loop
 positions-requires c κs = search needs
@@ -33,7 +42,7 @@ smaller-requires : tie.Need-smaller-requires Inv-loop μ-loop
 smaller-requires c κs = search needs
 
 loop-holds : tie.Need-loop-holds Inv-loop μ-loop
-loop-holds c = (omega arith, omega arith, refl, refl)
+loop-holds c = (omega arith, omega arith, record { ends = refl; bytes = refl })
 
 mul-word : tie.Need-mul-word Inv-loop μ-loop
 mul-word c = omega arith
@@ -53,8 +62,40 @@ mul-put-line-2 c = omega arith
 shared-slice-read-put-line-2 : tie.Need-shared-slice-read-put-line-2 Inv-loop μ-loop
 shared-slice-read-put-line-2 c = omega arith
 
+add-put-line-2 : tie.Need-add-put-line-2 Inv-loop μ-loop
+add-put-line-2 c = omega arith
+
+mul-put-line-3 : tie.Need-mul-put-line-3 Inv-loop μ-loop
+mul-put-line-3 c = omega arith
+
+shared-slice-read-put-line-3 : tie.Need-shared-slice-read-put-line-3 Inv-loop μ-loop
+shared-slice-read-put-line-3 c = omega arith
+
+add-put-line-3 : tie.Need-add-put-line-3 Inv-loop μ-loop
+add-put-line-3 c = omega arith
+
+mul-put-line-4 : tie.Need-mul-put-line-4 Inv-loop μ-loop
+mul-put-line-4 c = omega arith
+
+shared-slice-read-put-line-4 : tie.Need-shared-slice-read-put-line-4 Inv-loop μ-loop
+shared-slice-read-put-line-4 c = omega arith
+
+add-put-line-4 : tie.Need-add-put-line-4 Inv-loop μ-loop
+add-put-line-4 c = omega arith
+
+mul-put-line-5 : tie.Need-mul-put-line-5 Inv-loop μ-loop
+mul-put-line-5 c = omega arith
+
+shared-slice-read-put-line-5 : tie.Need-shared-slice-read-put-line-5 Inv-loop μ-loop
+shared-slice-read-put-line-5 c = omega arith
+
 put-line-requires : tie.Need-put-line-requires Inv-loop μ-loop
-put-line-requires c κs = let s = same (c .before .before .before .before) in omega arith
+put-line-requires c κs =
+    let head = c .before .before .before .before .before .before .before in
+    let word : ℕ → ℕ = λ k. getD (head .before .before .before .before .before .args .words .now) k 0 in
+    let i = head .loop .next * wordsOfRow in
+    let l = line-length (head .before .before .positions .result) (word i) (word (i + 1)) (word (i + 2)) (word (i + 3)) (word (i + 4)) in
+    omega (arith, same head, few head)
 
 add-next : tie.Need-add-next Inv-loop μ-loop
 add-next c = omega arith
@@ -64,24 +105,14 @@ loop-less c = omega arith
 
 loop-again : tie.Need-loop-again Inv-loop μ-loop
 loop-again c =
-    let head = c .before .before .before .before .before .before .before in
+    let call = c .before .before in
+    let head = call .before .before .before .before .before .before .before .before in
     let w = head .loop in
     let args = head .before .before .before .before .before .args in
     let digits = head .before .before .positions .result in
-    let cost = getD (args .words .now) (w .next * 2) 0 in
-    let place = getD (args .words .now) (w .next * 2 + 1) 0 in
-    let text = linesOf digits (take (w .next * 2) (args .words .now)) in
-    let line = wordsLine digits cost place in
-    let known = c .before .before .before .before .before .shared-slice-known2 .given (w .next * 2) in
-    let size = row-lines .line digits cost place (omega arith) (omega arith) .few in
-    let step = next-row digits (args .words .now) (w .next) (omega arith) in
-    let call = c .before .before .put-line .ensures in (
-      omega arith,
-      omega arith,
-      omega (arith, ap length step, length-append text line),
-      call .1 ∙ then-text text (args .buffer .now) (w .buffer) 0 (w .end) (w .inv .3) (omega arith) line (omega arith) ∙
-          ap (λ l. written l (args .buffer .now) 0) (sym step),
-    )
+    let f = few head in
+    let more = then-put (w .inv .2) (line head) (omega arith) (call .put-line .ensures .0) (call .put-line .ensures .1) in
+    (omega arith, omega arith, rw (next-row digits (args .words .now) (w .next) (omega arith)) more)
 
 same-length : tie.Need-same-length Inv-loop μ-loop
 same-length c = same (c .before)
@@ -94,8 +125,8 @@ returns c =
     let words = args .words .now in
     let buffer = args .buffer .now in
     let n : w .next ≡ fitting words buffer = omega arith in
-    let all = ap₂ (λ (d k : ℕ). linesOf d (take (k * 2) words)) (head .before .before .positions .ensures) n in
-    (w .inv .2 ∙ ap length all, w .inv .3 ∙ ap (λ l. written l buffer 0) all)
+    let all = ap₂ (λ (d k : ℕ). linesOf d (take (k * wordsOfRow) words)) (head .before .before .positions .ensures) n in
+    (omega (arith, ap length all), w .inv .2 .bytes ∙ ap (λ l. written l buffer 0) all)
 
 pub put-rows-spec : {M : Type 1} → statement M
 put-rows-spec =
@@ -112,6 +143,15 @@ put-rows-spec =
     add-put-line
     mul-put-line-2
     shared-slice-read-put-line-2
+    add-put-line-2
+    mul-put-line-3
+    shared-slice-read-put-line-3
+    add-put-line-3
+    mul-put-line-4
+    shared-slice-read-put-line-4
+    add-put-line-4
+    mul-put-line-5
+    shared-slice-read-put-line-5
     put-line-requires
     add-next
     loop-less

@@ -8,15 +8,15 @@ use Rattle.list_text.specs.Lines.{decimal}
 use Rattle.list_text.proofs.Decimals.{small, large}
 use Rattle.list_text.proofs.Making.{tenth-shorter}
 use Rattle.list_text.proofs.Writing.{Filling, begun, filled-more, filled}
-use Rattle.list_text.proofs.rows.put_cost.Statement.{statement}
-use Rattle.list_text.proofs.rows.put_cost.Tie as tie
+use Rattle.list_text.proofs.rows.put_digits.Statement.{statement}
+use Rattle.list_text.proofs.rows.put_digits.Tie as tie
 
 abbrev Inv-loop : tie.InvT-loop
-Inv-loop cost count buffer₀ at end₀ left₀ buffer end left =
-    (end ≡ at + length (decimal left)) × (end ≤ at + count) × Filling (decimal cost) (decimal left) buffer₀ buffer at
+Inv-loop n count buffer₀ at end₀ left₀ buffer end left =
+    (end ≡ at + length (decimal left)) × (end ≤ at + count) × Filling (decimal n) (decimal left) buffer₀ buffer at
 
 abbrev μ-loop : tie.MeasureT-loop
-μ-loop cost count buffer₀ at end₀ left₀ buffer end left = left
+μ-loop n count buffer₀ at end₀ left₀ buffer end left = left
 
 add-end : tie.Need-add-end Inv-loop μ-loop
 add-end c = omega arith
@@ -24,7 +24,7 @@ add-end c = omega arith
 loop-holds : tie.Need-loop-holds Inv-loop μ-loop
 loop-holds c =
     let args = c .before .args in
-    (omega arith, omega arith, begun (decimal (args .cost)) (args .buffer .now) (args .at))
+    (omega arith, omega arith, begun (decimal (args .n)) (args .buffer .now) (args .at))
 
 sub-end : tie.Need-sub-end Inv-loop μ-loop
 sub-end c = let s = tenth-shorter (c .before .loop .left) (omega arith) in omega arith
@@ -67,8 +67,8 @@ returns c =
     let last = alone ∙ ap (λ d. d ∷ []) (sym (c .last-digit2 .ensures)) in
     filled (filled-more [] at (c .last-digit2 .result) (w .inv .2) last (omega arith) (omega arith))
 
-pub put-cost-spec : {M : Type 1} → statement M
-put-cost-spec =
+pub put-digits-spec : {M : Type 1} → statement M
+put-digits-spec =
     tie.close
     (tie.spec
     Inv-loop

@@ -1,0 +1,22 @@
+-- How a row comes to its words: from its key, with the bill of the placement that the key packs.
+use Prim.Native.Nat.{ℕ, _-_, _*_}
+use mathlib.Core.List.{List, [], _∷_, _++_, map}
+use lib.ListN.{length, take, drop, replicate}
+use Rattle.description.specs.Format.{Description}
+use Rattle.costs.specs.Cost.{billOf}
+use Rattle.packing.specs.Packing.{digits}
+use Rattle.sequences.specs.Lists.{joined}
+use Rattle.sorting.specs.Rows.{pairs}
+
+-- the sixteen bytes that a key packs
+abbrev pub keyPlacement : Description → ℕ → List ℕ
+keyPlacement d place = digits (length (d .blocks)) place ++ replicate (16 - length (d .blocks)) 0
+
+abbrev pub billed : Description → ℕ × ℕ → List ℕ
+billed d key =
+    key .0 ∷ key .1 ∷
+    billOf d (keyPlacement d (key .1)) .storage ∷ billOf d (keyPlacement d (key .1)) .transfer ∷ billOf d (keyPlacement d (key .1)) .cpu ∷ []
+
+-- the words of the first n keys' rows
+abbrev pub billedFront : Description → ℕ → List ℕ → List ℕ
+billedFront d n keys = joined (map (billed d) (pairs (take (n * 2) keys)))

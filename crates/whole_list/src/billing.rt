@@ -1,0 +1,60 @@
+// Rows that were sorted by their keys get their bills: from two words each they become five.
+ghost use mathlib.Core.Path.{_≡_};
+ghost use mathlib.Core.List.{[], _∷_, _++_};
+ghost use Prim.Native.Nat.{_+_, _*_, _≤_};
+ghost use lib.ListN.{length, drop, getD, replicate};
+ghost use lib.Seq.{sets};
+ghost use Rattle.description.specs.Meaning.{describes};
+ghost use Rattle.whole_list.specs.Billing.{billed, billedFront};
+use costs::answers::Bill;
+use costs::cost::bill_of;
+use description::words::Words;
+use description::workflow::block_count;
+use packing::unpacked;
+
+// The words of a row: its cost, its packed placement, and the amounts for storage, transfers and computing.
+pub const ROW_WORDS: usize = 5;
+
+// The words of its key: the first two of them.
+pub const KEY_WORDS: usize = 2;
+
+fn put_row(rows: &mut [u64], at: usize, cost: u64, place: u64, bill: Bill)
+    requires { ⌜ at + 5 ≤ length (now rows) ⌝ }
+    ensures { λ _. ⌜ now (rows .exit) ≡ sets (now (rows .entry)) at (cost ∷ place ∷ bill .storage ∷ bill .transfer ∷ bill .cpu ∷ []) ⌝ }
+{
+    rows[at] = cost;
+    rows[at + 1] = place;
+    rows[at + 2] = bill.storage;
+    rows[at + 3] = bill.transfer;
+    rows[at + 4] = bill.cpu;
+}
+
+// Row i goes to its words, and its key is cleared.
+fn bill_row(w: &Words, blocks: usize, keys: &mut [u64], rows: &mut [u64], i: usize)
+    requires { ⌜ (blocks ≡ length (describes (now w) .blocks)) × (blocks ≤ 16) ⌝ }
+    requires { ⌜ (i * 2 + 2 ≤ length (now keys)) × (i * 5 + 5 ≤ length (now rows)) ⌝ }
+    ensures { λ _. ⌜ now (keys .exit) ≡ sets (now (keys .entry)) (i * 2) (0 ∷ 0 ∷ []) ⌝ }
+    ensures { λ _. ⌜ now (rows .exit) ≡ sets (now (rows .entry)) (i * 5) (billed (describes (now (w .entry))) (getD (now (keys .entry)) (i * 2) 0, getD (now (keys .entry)) (i * 2 + 1) 0)) ⌝ }
+{
+    let key = i * KEY_WORDS;
+    let cost = keys[key];
+    let place = keys[key + 1];
+    keys[key] = 0;
+    keys[key + 1] = 0;
+    let bill = bill_of(w, unpacked(place, blocks));
+    put_row(rows, i * ROW_WORDS, cost, place, bill);
+}
+
+// The first n rows, in the order of their keys. What is beyond them stays.
+pub fn bill_rows(w: &Words, keys: &mut [u64], rows: &mut [u64], n: usize)
+    requires { ⌜ (n * 2 ≤ length (now keys)) × (n * 5 ≤ length (now rows)) ⌝ }
+    ensures { λ _. ⌜ now (keys .exit) ≡ replicate (n * 2) 0 ++ drop (n * 2) (now (keys .entry)) ⌝ }
+    ensures { λ _. ⌜ now (rows .exit) ≡ billedFront (describes (now (w .entry))) n (now (keys .entry)) ++ drop (n * 5) (now (rows .entry)) ⌝ }
+{
+    let blocks = block_count(w);
+    let mut i = 0;
+    while i < n {
+        bill_row(w, blocks, keys, rows, i);
+        i += 1;
+    }
+}
