@@ -16,7 +16,7 @@ use Rattle.security.specs.Placements.{moves}
 use Rattle.costs.specs.Transfers.{Transfer, transferOf, transfersFrom, transfers, bytesOf, fitted, bufferAfter}
 use Rattle.sequences.specs.Results.{ok, refused}
 use Rattle.sequences.specs.Lists.{sum}
-use Rattle.sequences.proofs.Loops.{rest, sum-next}
+use Rattle.sequences.proofs.Loops.{rest}
 use Rattle.sequences.proofs.Tests.{cond-ind}
 
 -- the edge's own transfer, if it makes one, comes before those of the edges behind it
@@ -146,11 +146,3 @@ transfers-by-edge d p n (e ∷ es) = step (moves p e) (transfers-by-edge d p (su
         ≡ cond t (transferCost d (transferOf 0 p e)) 0 + sum (map (edgeCost d p) es)
     step true h = omega (arith, h)
     step false h = omega (arith, h)
-
--- from edge i on: what edge i costs, and the rest
-pub cost-next : (d : Description) (p : List ℕ) (es : List Edge) (i : ℕ) → i < length es
-    → sum (map (transferCost d) (transfersFrom i p (drop i es))) ≡
-    edgeCost d p (getD es i noEdge) + sum (map (transferCost d) (transfersFrom (i + 1) p (drop (i + 1) es)))
-cost-next d p es i h =
-    transfers-by-edge d p i (drop i es) ∙ sum-next (edgeCost d p) es noEdge i h ∙
-    ap (λ (n : ℕ). edgeCost d p (getD es i noEdge) + n) (sym (transfers-by-edge d p (i + 1) (drop (i + 1) es)))

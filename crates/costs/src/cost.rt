@@ -1,25 +1,18 @@
-// What a placement costs: storage, transfers and computing. Each term is bounded by its operands' widths, so no sum overflows.
+// What a placement pays for storage, transfers and computing. Each term is bounded by its operands' widths, so no sum overflows.
 ghost use mathlib.Core.Path.{_≡_};
 ghost use Prim.Native.Nat.{_≤_, _<_, _*_};
-ghost use Rattle.weights.specs.Weights.{costLimit};
 ghost use Rattle.description.specs.Meaning.{describes};
 ghost use Rattle.costs.specs.Answers.{amountOf};
-ghost use Rattle.costs.specs.Cost.{gigabytes, chargedOf, storageOf, cpuOf, ofBlocks, edgeCost, transferAmount, billOf, total};
+ghost use Rattle.costs.specs.Cost.{gigabytes, chargedOf, storageOf, cpuOf, ofBlocks, billOf, cost};
 use crate::answers::Bill;
 use crate::answers::Charge;
-use crate::transfer::destination_of;
-use crate::transfer::source_of;
 use description::words::Words;
 use description::workflow::Cloud;
-use description::workflow::Edge;
 use description::workflow::Kind;
 use description::workflow::block_at;
 use description::workflow::block_count;
 use description::workflow::cloud_at;
-use description::workflow::edge_at;
-use description::workflow::edge_count;
 use security::placements::cloud_of;
-use security::placements::moves;
 use sequences::wide;
 
 // Gigabytes charged for a size in tenths.
@@ -102,43 +95,16 @@ fn blocks_cost(charge: Charge, w: &Words, placement: [u8; 16]) -> u64
     total
 }
 
-// What the transfer of edge e is charged; 0 where it makes none.
-fn edge_cost(w: &Words, placement: [u8; 16], e: Edge) -> u64
-    ensures { λ r. ⌜ r ≡ edgeCost (describes (now (w .entry))) placement e ⌝ }
-    ensures { λ r. ⌜ r ≤ 859032780 ⌝ }
-{
-    if !moves(placement, e) {
-        return 0;
-    }
-    let from = cloud_at(w, wide(source_of(placement, e)));
-    let to = cloud_at(w, wide(destination_of(placement, e)));
-    let datum = block_at(w, wide(e.datum));
-    let kind = datum.kind;
-    (from.outward as u64 + to.inward as u64) * charged_of(kind)
-}
-
-fn transfers_cost(w: &Words, placement: [u8; 16]) -> u64
-    ensures { λ r. ⌜ r ≡ transferAmount (describes (now (w .entry))) placement ⌝ }
-    ensures { λ r. ⌜ r ≤ 32 * 859032780 ⌝ }
-{
-    let n = edge_count(w);
-    let mut total: u64 = 0;
-    let mut i = 0;
-    while i < n {
-        total += edge_cost(w, placement, edge_at(w, i));
-        i += 1;
-    }
-    total
-}
-
-// The bill of one placement. The walk carries the sum of its amounts alone, term by term; a row that is answered is billed here.
-pub fn bill_of(w: &Words, placement: [u8; 16]) -> Bill
+// The bill of a placement whose cost is known, as that of every row is: what storage and computing leave of it is for the transfers.
+pub fn bill_of(w: &Words, placement: [u8; 16], whole: u64) -> Bill
+    requires { ⌜ whole ≡ cost (describes (now w)) placement ⌝ }
     ensures { λ r. ⌜ r ≡ billOf (describes (now (w .entry))) placement ⌝ }
-    ensures { λ r. ⌜ total r < costLimit ⌝ }
 {
+    let storage = blocks_cost(Charge::Storage, w, placement);
+    let cpu = blocks_cost(Charge::Cpu, w, placement);
     Bill {
-        storage: blocks_cost(Charge::Storage, w, placement),
-        transfer: transfers_cost(w, placement),
-        cpu: blocks_cost(Charge::Cpu, w, placement),
+        storage,
+        transfer: whole - storage - cpu,
+        cpu,
     }
 }

@@ -192,19 +192,23 @@ module _ (d : Description) (o : Option Row) (s : List ℕ) where
       go none k = refl
       go (some row) k = absurd (omega (arith, k .4, k .5, e))
 
+  -- the cost that was kept is that of the placement that was kept, and the row is theirs
   pub some-kept : KeptRow d o s → (getD s bestCostAt 0 ≡ costLimit → ⊥) → (bytes : List ℕ)
       → bytes ≡ digits (length (d .blocks)) (getD s bestPlaceAt 0) ++ replicate (16 - length (d .blocks)) 0
-      → o ≡ some (record { cost = getD s bestCostAt 0; placement = bytes; bill = billOf d bytes })
+      → (getD s bestCostAt 0 ≡ cost d bytes) × (o ≡ some (record { cost = getD s bestCostAt 0; placement = bytes; bill = billOf d bytes }))
   some-kept k n bytes e = go o k
     where
-      go : (o : Option Row) → KeptRow d o s → o ≡ some (record { cost = getD s bestCostAt 0; placement = bytes; bill = billOf d bytes })
+      go : (o : Option Row) → KeptRow d o s
+          → (getD s bestCostAt 0 ≡ cost d bytes) × (o ≡ some (record { cost = getD s bestCostAt 0; placement = bytes; bill = billOf d bytes }))
       go none k = absurd (n k)
       go (some row) (q, size, low, same, price, small, packed) =
           let behind : List ℕ → List ℕ = λ x. x ++ replicate (16 - length (d .blocks)) 0 in
           let shown : bytes ≡ padded d q =
-          e ∙ ap (λ x. behind (digits (length (d .blocks)) x)) packed ∙ ap behind (digits-pack (length (d .blocks)) q size low) in
-          ap some (λ i. record {
-            cost = sym price i;
-            placement = (sym (ap (λ x. x .placement) same) ∙ sym shown) i;
-            bill = (sym (ap (λ x. x .bill) same) ∙ ap (billOf d) (sym shown)) i;
-          })
+          e ∙ ap (λ x. behind (digits (length (d .blocks)) x)) packed ∙ ap behind (digits-pack (length (d .blocks)) q size low) in (
+            price ∙ sym (ap (λ x. x .cost) same) ∙ ap (cost d) (sym shown),
+            ap some (λ i. record {
+              cost = sym price i;
+              placement = (sym (ap (λ x. x .placement) same) ∙ sym shown) i;
+              bill = (sym (ap (λ x. x .bill) same) ∙ ap (billOf d) (sym shown)) i;
+            }),
+          )

@@ -170,12 +170,13 @@ pub fn row_past(w: &Words, candidates: u64, cursor: Cursor) -> Next
     if state[BEST_COST] == COST_LIMIT {
         return no_row();
     }
+    let cost = state[BEST_COST];
     let placement = unpacked(state[BEST_PLACE], blocks);
-    let bill = bill_of(w, placement);
+    let bill = bill_of(w, placement, cost);
     Next {
         found: true,
         row: Row {
-            cost: state[BEST_COST],
+            cost,
             placement,
             bill,
         },

@@ -1,9 +1,9 @@
 -- The rows' keys, sorted, are those of the list, and with their bills they are the list.
 use Prim.Native.Nat.{ℕ, _+_, _*_, _≤_}
 use native.Mathlib.Omega.{arith}
-use mathlib.Core.Path.{_≡_, refl, sym, ap, ap₂, _∙_}
+use mathlib.Core.Path.{_≡_, refl, sym, ap, ap₂, subst, _∙_}
 use mathlib.Core.Bool.{true, cond}
-use mathlib.Core.List.{List, [], _∷_, _++_, map, map-map, List·Memᴰ}
+use mathlib.Core.List.{List, [], _∷_, _++_, map, map-map, List·Memᴰ, Memᴰ·of-map}
 use lib.ListN.{length, drop, replicate, length-append, length-drop, length-map, length-replicate}
 use lib.Seq.{take-at, drop-at, drop-append-add, drop-drop}
 use Rattle.sequences.specs.Lists.{sort, joined}
@@ -13,18 +13,18 @@ use Rattle.sequences.proofs.Sorting.{sort-map}
 use Rattle.description.specs.Format.{Description}
 use Rattle.security.specs.Accepted.{Admitted}
 use Rattle.costs.specs.declared.answers.Bill.{Bill}
-use Rattle.costs.specs.Cost.{billOf}
+use Rattle.costs.specs.Cost.{billOf, cost}
 use Rattle.sorting.specs.Rows.{flat, lower, pairs, sortedFront, clearedFront, roomFor}
 use Rattle.sorting.proofs.Room.{has-room, sorted-front-is, cleared-front-is}
-use Rattle.sorting.proofs.Rows.{length-flat, pairs-flat}
+use Rattle.sorting.proofs.Rows.{length-flat, pairs-flat, flat-each}
 use Rattle.survey.specs.declared.Row.{Row}
 use Rattle.survey.specs.Rows.{earlier, rows}
 use Rattle.survey.specs.RowWords.{rowKey, keysNeeded, unsorted}
-use Rattle.survey.proofs.Billing.{row-billed}
+use Rattle.survey.proofs.Billing.{row-billed, row-costs}
 use Rattle.survey.proofs.Drawing.{rows-sorted}
 use Rattle.survey.proofs.Drawing.{unsorted as unsortedRows}
 use Rattle.survey.proofs.RowsInWords.{ordered-rows, unsorted-pairs, unsorted-length, words-row}
-use Rattle.whole_list.specs.Billing.{billed, billedFront}
+use Rattle.whole_list.specs.Billing.{Priced, AllPriced, billed, billedFront}
 use Rattle.whole_list.specs.WholeList.{rowWords, listed, needed, cleared}
 
 -- the list is the words of the rows, in their order: five for each
@@ -63,6 +63,15 @@ module _ (d : Description) (a : Admitted d) where
   billed-row r m =
       let bill : Bill → List ℕ = λ b. rowKey d r .0 ∷ rowKey d r .1 ∷ b .storage ∷ b .transfer ∷ b .cpu ∷ [] in
       ap bill (ap (billOf d) (words-row d a r m) ∙ sym (row-billed d r m))
+
+  -- a key's cost is that of its placement
+  pub keys-priced : (ws : List ℕ) → AllPriced d (length (rows d)) (keys ++ ws)
+  keys-priced ws i h = flat-each (Priced d) (map (rowKey d) (rows d)) ws each i (omega (arith, length-map (rows d) (rowKey d)))
+    where
+      each : (k : ℕ × ℕ) → List·Memᴰ k (map (rowKey d) (rows d)) → Priced d k
+      each k m =
+          let (r, listed, e) = Memᴰ·of-map (rowKey d) (rows d) m in
+          subst (Priced d) e (row-costs d r listed ∙ ap (cost d) (sym (words-row d a r listed)))
 
   -- WITH THEIR BILLS, THEY ARE THE LIST
   pub billed-front : (ws : List ℕ) → billedFront d (length (rows d)) (keys ++ ws) ≡ listed d

@@ -1,9 +1,10 @@
 -- How a row comes to its words: from its key, with the bill of the placement that the key packs.
-use Prim.Native.Nat.{ℕ, _-_, _*_}
+use Prim.Native.Nat.{ℕ, _+_, _-_, _*_, _<_}
+use mathlib.Core.Path.{_≡_}
 use mathlib.Core.List.{List, [], _∷_, _++_, map}
-use lib.ListN.{length, take, drop, replicate}
+use lib.ListN.{length, getD, take, replicate}
 use Rattle.description.specs.Format.{Description}
-use Rattle.costs.specs.Cost.{billOf}
+use Rattle.costs.specs.Cost.{billOf, cost}
 use Rattle.packing.specs.Packing.{digits}
 use Rattle.sequences.specs.Lists.{joined}
 use Rattle.sorting.specs.Rows.{pairs}
@@ -12,6 +13,14 @@ use Rattle.sorting.specs.Rows.{pairs}
 abbrev pub keyPlacement : Description → ℕ → List ℕ
 keyPlacement d place = digits (length (d .blocks)) place ++ replicate (16 - length (d .blocks)) 0
 
+-- a key's cost is that of its placement; so it is with the first n keys
+abbrev pub Priced : Description → ℕ × ℕ → Type 0
+Priced d key = key .0 ≡ cost d (keyPlacement d (key .1))
+
+abbrev pub AllPriced : Description → ℕ → List ℕ → Type 0
+AllPriced d n keys = (i : ℕ) → i < n → Priced d (getD keys (i * 2) 0, getD keys (i * 2 + 1) 0)
+
+-- the words of the row that has the key
 abbrev pub billed : Description → ℕ × ℕ → List ℕ
 billed d key =
     key .0 ∷ key .1 ∷

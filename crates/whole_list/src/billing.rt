@@ -5,7 +5,7 @@ ghost use Prim.Native.Nat.{_+_, _*_, _≤_};
 ghost use lib.ListN.{length, drop, getD, replicate};
 ghost use lib.Seq.{sets};
 ghost use Rattle.description.specs.Meaning.{describes};
-ghost use Rattle.whole_list.specs.Billing.{billed, billedFront};
+ghost use Rattle.whole_list.specs.Billing.{Priced, AllPriced, billed, billedFront};
 use costs::answers::Bill;
 use costs::cost::bill_of;
 use description::words::Words;
@@ -33,6 +33,7 @@ fn put_row(rows: &mut [u64], at: usize, cost: u64, place: u64, bill: Bill)
 fn bill_row(w: &Words, blocks: usize, keys: &mut [u64], rows: &mut [u64], i: usize)
     requires { ⌜ (blocks ≡ length (describes (now w) .blocks)) × (blocks ≤ 16) ⌝ }
     requires { ⌜ (i * 2 + 2 ≤ length (now keys)) × (i * 5 + 5 ≤ length (now rows)) ⌝ }
+    requires { ⌜ Priced (describes (now w)) (getD (now keys) (i * 2) 0, getD (now keys) (i * 2 + 1) 0) ⌝ }
     ensures { λ _. ⌜ now (keys .exit) ≡ sets (now (keys .entry)) (i * 2) (0 ∷ 0 ∷ []) ⌝ }
     ensures { λ _. ⌜ now (rows .exit) ≡ sets (now (rows .entry)) (i * 5) (billed (describes (now (w .entry))) (getD (now (keys .entry)) (i * 2) 0, getD (now (keys .entry)) (i * 2 + 1) 0)) ⌝ }
 {
@@ -41,13 +42,14 @@ fn bill_row(w: &Words, blocks: usize, keys: &mut [u64], rows: &mut [u64], i: usi
     let place = keys[key + 1];
     keys[key] = 0;
     keys[key + 1] = 0;
-    let bill = bill_of(w, unpacked(place, blocks));
+    let bill = bill_of(w, unpacked(place, blocks), cost);
     put_row(rows, i * ROW_WORDS, cost, place, bill);
 }
 
 // The first n rows, in the order of their keys. What is beyond them stays.
 pub fn bill_rows(w: &Words, keys: &mut [u64], rows: &mut [u64], n: usize)
     requires { ⌜ (n * 2 ≤ length (now keys)) × (n * 5 ≤ length (now rows)) ⌝ }
+    requires { ⌜ AllPriced (describes (now w)) n (now keys) ⌝ }
     ensures { λ _. ⌜ now (keys .exit) ≡ replicate (n * 2) 0 ++ drop (n * 2) (now (keys .entry)) ⌝ }
     ensures { λ _. ⌜ now (rows .exit) ≡ billedFront (describes (now (w .entry))) n (now (keys .entry)) ++ drop (n * 5) (now (rows .entry)) ⌝ }
 {

@@ -1,12 +1,13 @@
 -- The row that the walk kept is the row that the draw answers.
 use Prim.Native.Nat.{_-_}
 use native.Mathlib.Omega.{arith}
-use mathlib.Core.Path.{sym, ap, subst, _∙_}
+use mathlib.Core.Path.{_≡_, sym, ap, subst, _∙_}
 use mathlib.Core.List.{_++_}
 use mathlib.Core.Option.{some}
 use lib.ListN.{getD, replicate}
 use Rattle.description.specs.Meaning.{describes}
 use Rattle.costs.specs.declared.answers.Bill.{Bill}
+use Rattle.costs.specs.Cost.{billOf, cost}
 use Rattle.packing.specs.Packing.{digits}
 use Rattle.visit.specs.Visits.{bestCostAt, bestPlaceAt}
 use Rattle.survey.specs.declared.Row.{Row}
@@ -60,32 +61,41 @@ returns c =
     let e = none-kept d (draw d (a .cursor)) (seen .walk-candidates .last .1 .1 .0) (kept seen) (c .before .if1 .taken) in
     (ap rowIn (c .no-row .ensures) ∙ sym e, ap (λ x. x .row) (c .no-row .ensures) ∙ ap rowOr (sym e))
 
+array-read-cost : tie.Need-array-read-cost
+array-read-cost c = search needs
+
 array-read-unpacked : tie.Need-array-read-unpacked
 array-read-unpacked c = search needs
 
 unpacked-requires : tie.Need-unpacked-requires
 unpacked-requires c κs = omega (arith, c .before .before .before .before .before .before .block-count .ensures .1)
 
-bill-of-requires : tie.Need-bill-of-requires
-bill-of-requires c κs = search needs
-
-array-read-t16 : tie.Need-array-read-t16
-array-read-t16 c = search needs
-
-returns-2 : tie.Need-returns-2
-returns-2 c =
-    let unpacked = c .before in
-    let seen = unpacked .before .before .before in
+-- the cost that was kept, and the row that the draw answers
+answered : (c : tie.After-unpacked) → let seen = c .before .before .before in
+    let words = seen .walk-candidates .last .1 .1 .0 in
+    let a = seen .before .before .before .before .before .args in
+    let d = describes (a .w .now) in
+    let p = c .unpacked .result in
+    (getD words bestCostAt 0 ≡ cost d p) ×
+    (draw d (a .cursor) ≡ some (record { cost = getD words bestCostAt 0; placement = p; bill = billOf d p }))
+answered c =
+    let seen = c .before .before .before in
     let words = seen .walk-candidates .last .1 .1 .0 in
     let place = getD words bestPlaceAt 0 in
     let blocks = seen .before .before .before .before .block-count in
     let a = seen .before .before .before .before .before .args in
     let d = describes (a .w .now) in
-    let bytes = unpacked .unpacked .result in
-    let are = unpacked .unpacked .ensures ∙ ap (λ n. digits n place ++ replicate (16 - n) 0) (blocks .ensures .0) in
-    let e = some-kept d (draw d (a .cursor)) words (kept seen) (unpacked .before .if1 .left) bytes are in
-    let row : Bill → Row = λ bill. record { cost = getD words bestCostAt 0; placement = bytes; bill = bill } in
-    let drawn = ap (λ bill. some (row bill)) (c .bill-of .ensures .0) ∙ sym e in
+    let bytes = c .unpacked .ensures ∙ ap (λ n. digits n place ++ replicate (16 - n) 0) (blocks .ensures .0) in
+    some-kept d (draw d (a .cursor)) words (kept seen) (c .before .if1 .left) (c .unpacked .result) bytes
+
+bill-of-requires : tie.Need-bill-of-requires
+bill-of-requires c κs = answered c .0
+
+returns-2 : tie.Need-returns-2
+returns-2 c =
+    let words = c .before .before .before .before .walk-candidates .last .1 .1 .0 in
+    let row : Bill → Row = λ bill. record { cost = getD words bestCostAt 0; placement = c .before .unpacked .result; bill = bill } in
+    let drawn = ap (λ bill. some (row bill)) (c .bill-of .ensures) ∙ sym (answered (c .before) .1) in
     (drawn, ap rowOr drawn)
 
 pub row-past-spec : {M : Type 1} → statement M
@@ -99,8 +109,8 @@ row-past-spec =
     array-read-if1
     no-row-requires
     returns
+    array-read-cost
     array-read-unpacked
     unpacked-requires
     bill-of-requires
-    array-read-t16
     returns-2)

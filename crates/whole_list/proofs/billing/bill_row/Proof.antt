@@ -2,14 +2,15 @@
 use Prim.Native.Nat.{ℕ, _+_, _-_, _*_}
 use native.Mathlib.Numerals.{add-one}
 use native.Mathlib.Omega.{arith}
-use mathlib.Core.Path.{ap, _∙_}
+use mathlib.Core.Path.{_≡_, sym, ap, _∙_}
 use mathlib.Core.List.{List, [], _∷_, _++_}
 use lib.ListN.{getD, set, replicate, length-set}
 use lib.Seq.{sets}
 use Rattle.costs.specs.declared.answers.Bill.{Bill}
-use Rattle.costs.specs.Cost.{billOf}
+use Rattle.costs.specs.Cost.{billOf, cost}
 use Rattle.description.specs.Meaning.{describes}
 use Rattle.packing.specs.Packing.{digits}
+use Rattle.whole_list.specs.Billing.{keyPlacement}
 use borrow.Author.Needs.{needs}
 use Rattle.whole_list.proofs.billing.bill_row.Statement.{statement}
 use Rattle.whole_list.proofs.billing.bill_row.Tie as tie
@@ -50,8 +51,18 @@ slice-write-keys-2 c = simp length-set (omega arith)
 unpacked-requires : tie.Need-unpacked-requires
 unpacked-requires c κs = search needs
 
+-- the sixteen bytes that the key packs
+bytes : (c : tie.After-unpacked) → let a = c .before .before .before .before .before .args in
+    c .unpacked .result ≡ keyPlacement (describes (a .w .now)) (getD (a .keys .now) (a .i * 2 + 1) 0)
+bytes c =
+    let s = c .before .before .before .before .before in
+    let place = getD (s .args .keys .now) (s .args .i * 2 + 1) 0 in
+    c .unpacked .ensures ∙ ap (λ n. digits n place ++ replicate (16 - n) 0) (s .pre .0 .0)
+
 bill-of-requires : tie.Need-bill-of-requires
-bill-of-requires c κs = search needs
+bill-of-requires c κs =
+    let s = c .before .before .before .before .before in
+    s .pre .1 .1 ∙ ap (cost (describes (s .args .w .now))) (sym (bytes c))
 
 mul-put-row : tie.Need-mul-put-row
 mul-put-row c = search needs
@@ -68,18 +79,16 @@ same-length-2 c = search needs
 returns : tie.Need-returns
 returns c =
     let put = c .before .before in
-    let bill = put .before .before .bill-of in
-    let unpacked = put .before .before .before .unpacked in
+    let bill = put .before .before in
     let s = put .before .before .before .before .before .before .before .before in
     let a = s .args in
     let d = describes (a .w .now) in
     let key = a .i * 2 in
     let cost = getD (a .keys .now) key 0 in
     let place = getD (a .keys .now) (key + 1) 0 in
-    let bytes = unpacked .ensures ∙ ap (λ n. digits n place ++ replicate (16 - n) 0) (s .pre .0 .0) in
     let words : Bill → List ℕ = λ b. cost ∷ place ∷ b .storage ∷ b .transfer ∷ b .cpu ∷ [] in (
       ap (λ k. set (set (a .keys .now) key 0) k 0) (add-one key),
-      put .put-row .ensures ∙ ap (λ b. sets (a .rows .now) (a .i * 5) (words b)) (bill .ensures .0 ∙ ap (billOf d) bytes),
+      put .put-row .ensures ∙ ap (λ b. sets (a .rows .now) (a .i * 5) (words b)) (bill .bill-of .ensures ∙ ap (billOf d) (bytes (bill .before))),
     )
 
 pub bill-row-spec : {M : Type 1} → statement M

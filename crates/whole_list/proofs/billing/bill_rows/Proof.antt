@@ -3,12 +3,12 @@ use Prim.Native.Nat.{ℕ, _+_, _-_, _*_, _≤_}
 use native.Mathlib.Nat.{add-zero}
 use native.Mathlib.Omega.{arith}
 use borrow.Author.Needs.{needs}
-use mathlib.Core.Path.{_≡_, refl, sym, ap, _∙_}
+use mathlib.Core.Path.{_≡_, refl, sym, ap, subst, _∙_}
 use mathlib.Core.List.{[], _∷_, _++_}
 use lib.ListN.{length, drop, getD}
 use lib.Seq.{sets}
 use Rattle.description.specs.Meaning.{describes}
-use Rattle.whole_list.specs.Billing.{billed, billedFront}
+use Rattle.whole_list.specs.Billing.{Priced, billed, billedFront}
 use Rattle.whole_list.proofs.Billed.{clearedKeys, none-billed, keys-length, rows-length, key-left, one-cleared, row-behind}
 use Rattle.whole_list.proofs.billing.bill_rows.Statement.{statement}
 use Rattle.whole_list.proofs.billing.bill_rows.Tie as tie
@@ -39,10 +39,30 @@ rows-size c =
     let a = c .before .before .before .before .args in
     ap length (c .loop .inv .2) ∙ rows-length (describes (a .w .now)) (a .keys .now) (c .loop .i) (omega arith) (a .rows .now) (omega arith)
 
+-- the next key is still as it was lent
+own : (c : tie.In-loop Inv-loop μ-loop) → let l = c .before .loop in
+    let keys = c .before .before .before .before .before .args .keys .now in
+    (getD (l .keys) (l .i * 2) 0 ≡ getD keys (l .i * 2) 0) × (getD (l .keys) (l .i * 2 + 1) 0 ≡ getD keys (l .i * 2 + 1) 0)
+own c =
+    let l = c .before .loop in
+    let a = c .before .before .before .before .before .args in
+    let d = describes (a .w .now) in
+    let keys = a .keys .now in
+    let word : (k : ℕ) → getD (l .keys) (l .i * 2 + k) 0 ≡ getD keys (l .i * 2 + k) 0 =
+    λ k. ap (λ w. getD w (l .i * 2 + k) 0) (l .inv .1) ∙ key-left d keys (l .i) (omega arith) k in
+    (ap (λ n. getD (l .keys) n 0) (sym (add-zero (l .i * 2))) ∙ word 0 ∙ ap (λ n. getD keys n 0) (add-zero (l .i * 2)), word 1)
+
 bill-row-requires : tie.Need-bill-row-requires Inv-loop μ-loop
 bill-row-requires c κs =
-    let head = c .before .before .before in
-    (head .before .block-count .ensures, (omega (arith, keys-size head), omega (arith, rows-size head)))
+    let loop = c .before .before in
+    let head = loop .before in
+    let s = head .before .before .before .before in
+    let d = describes (s .args .w .now) in
+    let same = own loop in
+    let priced = s .pre .1 (head .loop .i) (omega arith) in (
+      head .before .block-count .ensures,
+      ((omega (arith, keys-size head), omega (arith, rows-size head)), subst (Priced d) (λ i. (sym (same .0) i, sym (same .1) i)) priced),
+    )
 
 add-i : tie.Need-add-i Inv-loop μ-loop
 add-i c = omega arith
@@ -60,12 +80,10 @@ loop-again c =
     let keys = a .keys .now in
     let rows = a .rows .now in
     let room : l .i * 2 + 2 ≤ length keys = omega arith in
-    let own : (k : ℕ) → getD (l .keys) (l .i * 2 + k) 0 ≡ getD keys (l .i * 2 + k) 0 =
-    λ k. ap (λ w. getD w (l .i * 2 + k) 0) (l .inv .1) ∙ key-left d keys (l .i) room k in
-    let first = ap (λ n. getD (l .keys) n 0) (sym (add-zero (l .i * 2))) ∙ own 0 ∙ ap (λ n. getD keys n 0) (add-zero (l .i * 2)) in (
+    let same = own (row .before .before .before) in (
       omega arith,
       row .bill-row .ensures .0 ∙ ap (λ k. sets k (l .i * 2) (0 ∷ 0 ∷ [])) (l .inv .1) ∙ one-cleared d keys (l .i) room,
-      row .bill-row .ensures .1 ∙ (λ i. sets (l .inv .2 i) (l .i * 5) (billed d (first i, own 1 i))) ∙
+      row .bill-row .ensures .1 ∙ (λ i. sets (l .inv .2 i) (l .i * 5) (billed d (same .0 i, same .1 i))) ∙
           row-behind d keys (l .i) room rows (omega arith),
     )
 
