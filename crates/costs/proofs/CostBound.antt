@@ -17,10 +17,9 @@ use Rattle.description.specs.Format.{Description, cloud, block}
 use Rattle.description.specs.Bytes.{Bytes}
 use Rattle.description.specs.Invariants.{RatesFit, kindFits, InRange, Bounded}
 use Rattle.security.specs.Soundness.{read}
-use Rattle.costs.specs.declared.answers.Bill.{Bill}
 use Rattle.costs.specs.Transfers.{Transfer, transfersFrom, transfers}
 use Rattle.weights.specs.Weights.{costLimit}
-use Rattle.costs.specs.Cost.{gigabytes, chargedOf, storageOf, cpuOf, transferCost, ofBlocks, billOf, total, cost}
+use Rattle.costs.specs.Cost.{gigabytes, chargedOf, storageOf, cpuOf, transferCost, ofBlocks, billOf, total, cost, AmountsBelow}
 use Rattle.costs.proofs.Transferring.{transfers-length}
 use Rattle.security.proofs.Accepted.{read-bounded}
 
@@ -119,12 +118,7 @@ pub cost-total : (d : Description) (p : List ℕ) → cost d p ≡ total (billOf
 unfolding cost
 cost-total d p = refl
 
--- an amount is below 2^53 where the sum of the bill is
-pub record AmountsBelow (b : Bill) : Type 0 where
-  pub storage : b .storage < costLimit
-  pub transfer : b .transfer < costLimit
-  pub cpu : b .cpu < costLimit
-
+-- no amount is more than the cost
 pub bounded-amounts : (d : Description) (p : List ℕ) → Bounded d → AmountsBelow (billOf d p)
 bounded-amounts d p h =
     let t = bounded-cost d p h in

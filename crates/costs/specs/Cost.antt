@@ -1,5 +1,5 @@
 -- What a placement costs: three amounts, for storage, transfers and computing, which are its bill, and their sum.
-use Prim.Native.Nat.{ℕ, _+_, _*_, _/_}
+use Prim.Native.Nat.{ℕ, _+_, _*_, _/_, _<_}
 use mathlib.Core.Bool.{cond}
 use mathlib.Core.List.{List, map}
 use lib.ListN.{length, getD}
@@ -12,6 +12,7 @@ use Rattle.security.specs.Placements.{moves}
 use Rattle.costs.specs.declared.answers.Bill.{Bill}
 use Rattle.costs.specs.Transfers.{Transfer, transferOf, transfers}
 use Rattle.sequences.specs.Lists.{below, sum}
+use Rattle.weights.specs.Weights.{costLimit}
 
 -- gigabytes charged: the size, in tenths, over 10, rounded up
 unfoldable pub gigabytes : ℕ → ℕ
@@ -64,3 +65,9 @@ total b = b .storage + b .transfer + b .cpu
 
 unfoldable pub cost : Description → List ℕ → ℕ
 cost d p = total (billOf d p)
+
+-- no amount of a bill reaches 2^53
+pub record AmountsBelow (b : Bill) : Type 0 where
+  pub storage : b .storage < costLimit
+  pub transfer : b .transfer < costLimit
+  pub cpu : b .cpu < costLimit

@@ -7,7 +7,6 @@ ghost use Rattle.sequences.specs.Results.{ok};
 
 pub mod chain;
 
-use costs::answers::Bill;
 use description::words::WORDS;
 use description::workflow::Refusal;
 use judging::acceptance::accept;
@@ -18,6 +17,7 @@ use survey::Next;
 use survey::Row;
 use survey::count_all;
 use survey::row_past;
+use survey::zero_row;
 
 pub enum Counted {
     Counts(Figures),
@@ -69,15 +69,7 @@ fn refused(r: Refusal) -> Drawn
 {
     Drawn {
         answer: Answer::Refused(r),
-        row: Row {
-            cost: 0,
-            placement: [0u8; 16],
-            bill: Bill {
-                storage: 0,
-                transfer: 0,
-                cpu: 0,
-            },
-        },
+        row: zero_row(),
     }
 }
 

@@ -49,8 +49,9 @@ up-to b m l = elim (decLt (length l / 5) m) [
       let e : min n m * 5 ≡ n * 5 = omega arith in
       let f : m * 5 ≡ (n + (m - n)) * 5 = omega arith in
       let none = no-row b (take ((m - n) * 5) more) (omega (arith, length-take ((m - n) * 5) more, length-drop (n * 5) l)) in
-      ap (λ (k : ℕ). linesOf b (take k l)) e ∙
-      sym (ap (λ (k : ℕ). linesOf b (take k l)) f ∙ taken-apart b n (m - n) l ∙ ap (λ r. linesOf b (take (n * 5) l) ++ r) none ∙ append-nil (linesOf b (take (n * 5) l)))
+      let lines = linesOf b (take (n * 5) l) in
+      let all = ap (λ (k : ℕ). linesOf b (take k l)) f ∙ taken-apart b n (m - n) l ∙ ap (λ r. lines ++ r) none ∙ append-nil lines in
+      ap (λ (k : ℕ). linesOf b (take k l)) e ∙ sym all
   | no h ↦ let e : min (length l / 5) m * 5 ≡ m * 5 = omega arith in ap (λ (k : ℕ). linesOf b (take k l)) e
 ]
 

@@ -5,23 +5,24 @@ use mathlib.Core.Bool.{true}
 use mathlib.Core.List.{List}
 use lib.ListN.{length, take, drop}
 use Rattle.list_text.specs.Lines.{optionsLine, refusalLine}
-use Rattle.list_text.specs.RowLines.{linesOf}
+use Rattle.list_text.specs.RowLines.{wordsOfRow, bytesOfLine, linesOf}
+use Rattle.whole_list.specs.WholeList.{mostWords}
 use Rattle.listoptions.specs.declared.Sent.{Sent}
 use Rattle.sequences.specs.Results.{Result, ok, refused}
 
 -- words for 65,536 rows, as many as there can be candidates, and for their keys
 abbrev pub heldWords : ℕ
-heldWords = 327680
+heldWords = mostWords
 
 abbrev pub heldKeys : ℕ
 heldKeys = 131072
 
--- the rows of a page, and bytes for their lines, of at most 101 bytes each
+-- the rows of a page, and bytes for their lines
 abbrev pub pageRows : ℕ
 pageRows = 1024
 
 abbrev pub heldBytes : ℕ
-heldBytes = 103424
+heldBytes = pageRows * bytesOfLine
 
 -- how many rows are printed, and how many digits each has
 abbrev pub rowsOf : Result (ℕ × ℕ) → ℕ
@@ -37,7 +38,7 @@ abbrev pub linesIn : (blocks : ℕ) → List ℕ → List ℕ
 linesIn blocks words = linesOf (min blocks 16) words
 
 abbrev pub pageText : (blocks : ℕ) → List ℕ → (k : ℕ) → List ℕ
-pageText blocks words k = linesIn blocks (take (pageRows * 5) (drop (k * pageRows * 5) words))
+pageText blocks words k = linesIn blocks (take (pageRows * wordsOfRow) (drop (k * pageRows * wordsOfRow) words))
 
 -- the number of rows behind them, or why there are none
 abbrev pub lastLine : Result (ℕ × ℕ) → List ℕ

@@ -14,8 +14,15 @@ use whole_list::Extent;
 use whole_list::Listed;
 use whole_list::billing::ROW_WORDS;
 
-// The rows whose lines are one page.
+// Words for as many rows as there can be candidates, and for their keys.
+const HELD_WORDS: usize = 327680;
+
+const HELD_KEYS: usize = 131072;
+
+// The rows whose lines are one page, and bytes for them.
 const PAGE_ROWS: usize = 1024;
+
+const PAGE_BYTES: usize = 103424;
 
 // How many bytes were written, and whether standard output took all that there were to write.
 struct Sent {
@@ -105,23 +112,23 @@ fn write_list(description: &[u8], rows: &mut [u64], scratch: &mut [u64], text: &
     }
 }
 
-// Words for as many rows as there can be candidates, words for their keys, and bytes for a page.
-fn words() -> [u64; 327680]
+// A function for each of the large arrays: where one is made in place, its proof compares lists of that length.
+fn words() -> [u64; HELD_WORDS]
     ensures { λ r. ⌜ length r ≡ heldWords ⌝ }
 {
-    [0; 327680]
+    [0; HELD_WORDS]
 }
 
-fn keys() -> [u64; 131072]
+fn keys() -> [u64; HELD_KEYS]
     ensures { λ r. ⌜ length r ≡ heldKeys ⌝ }
 {
-    [0; 131072]
+    [0; HELD_KEYS]
 }
 
-fn bytes() -> [u8; 103424]
+fn bytes() -> [u8; PAGE_BYTES]
     ensures { λ r. ⌜ length r ≡ heldBytes ⌝ }
 {
-    [0; 103424]
+    [0; PAGE_BYTES]
 }
 
 // Of longer input the first `decidingBytes` decide (`printed-front`): what does not fit into the buffer need not be read.

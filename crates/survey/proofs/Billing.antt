@@ -1,11 +1,15 @@
 -- Cost and bill of a row are those of its placement; the three amounts add up to the cost, and none reaches 2^53.
+use Prim.Native.Nat.{ℕ}
 use mathlib.Core.Path.{_≡_, refl, sym, ap, subst, _∙_}
-use mathlib.Core.List.{List·Memᴰ}
+use mathlib.Core.List.{List, List·Memᴰ}
+use Rattle.description.specs.Bytes.{Bytes}
 use Rattle.description.specs.Format.{Description}
 use Rattle.security.specs.Accepted.{Admitted}
-use Rattle.security.proofs.Accepted.{admitted-bounded}
-use Rattle.costs.specs.Cost.{billOf, total, cost}
-use Rattle.costs.proofs.CostBound.{cost-total, AmountsBelow, bounded-amounts}
+use Rattle.security.specs.Soundness.{read}
+use Rattle.security.proofs.Accepted.{admitted-bounded, read-admitted}
+use Rattle.sequences.specs.Results.{ok}
+use Rattle.costs.specs.Cost.{billOf, total, cost, AmountsBelow}
+use Rattle.costs.proofs.CostBound.{cost-total, bounded-amounts}
 use Rattle.survey.specs.declared.Row.{Row}
 use Rattle.survey.specs.Rows.{rows}
 use Rattle.survey.proofs.Drawing.{rows-standing}
@@ -22,3 +26,7 @@ module _ (d : Description) (r : Row) (m : List·Memᴰ r (rows d)) where
 
   pub row-amounts : Admitted d → AmountsBelow (r .bill)
   row-amounts a = subst AmountsBelow (sym row-billed) (bounded-amounts d (r .placement) (admitted-bounded a))
+
+-- so it is with every row of an accepted description
+pub amounts-below : (s : List ℕ) (d : Description) → Bytes s → read s ≡ ok d → (r : Row) → List·Memᴰ r (rows d) → AmountsBelow (r .bill)
+amounts-below s d bytes accepted r m = row-amounts d r m (read-admitted s d accepted bytes)

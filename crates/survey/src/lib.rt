@@ -1,6 +1,5 @@
 // All placements of a description: how many there are of each kind, the first row past a cursor, and all rows.
 ghost use mathlib.Core.Path.{_≡_};
-ghost use mathlib.Core.Bool.{false};
 ghost use mathlib.Core.List.{_++_};
 ghost use Prim.Native.Nat.{_≤_};
 ghost use lib.ListN.{length, drop};
@@ -139,19 +138,17 @@ fn to_draw_past(cursor: Cursor, blocks: usize) -> State
     to_draw(cursor.cost, floor_place(bytes, blocks))
 }
 
-fn no_row() -> Next
-    ensures { λ r. ⌜ r ≡ record { found = false; row = zeroRow } ⌝ }
+// What stands where there is no row.
+pub fn zero_row() -> Row
+    ensures { λ r. ⌜ r ≡ zeroRow ⌝ }
 {
-    Next {
-        found: false,
-        row: Row {
-            cost: 0,
-            placement: [0u8; 16],
-            bill: Bill {
-                storage: 0,
-                transfer: 0,
-                cpu: 0,
-            },
+    Row {
+        cost: 0,
+        placement: [0u8; 16],
+        bill: Bill {
+            storage: 0,
+            transfer: 0,
+            cpu: 0,
         },
     }
 }
@@ -168,7 +165,10 @@ pub fn row_past(w: &Words, candidates: u64, cursor: Cursor) -> Next
     let mut none = [0u64; 1];
     walk_candidates(w, candidates, &mut state, &mut none);
     if state[BEST_COST] == COST_LIMIT {
-        return no_row();
+        return Next {
+            found: false,
+            row: zero_row(),
+        };
     }
     let cost = state[BEST_COST];
     let placement = unpacked(state[BEST_PLACE], blocks);

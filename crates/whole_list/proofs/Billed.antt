@@ -11,7 +11,7 @@ use Rattle.sequences.proofs.Loops.{rest}
 use Rattle.description.specs.Format.{Description}
 use Rattle.sorting.specs.Rows.{flat, pairs}
 use Rattle.sorting.proofs.Rows.{flat-none, flat-more, pairs-append, pairs-flat, flat-pairs, length-flat}
-use Rattle.whole_list.specs.Billing.{billed, billedFront}
+use Rattle.whole_list.specs.Billing.{keyAt, billed, billedFront}
 
 -- the keys that are cleared so far
 abbrev pub clearedKeys : ℕ → List ℕ → List ℕ
@@ -39,9 +39,6 @@ module _ (d : Description) (keys : List ℕ) (i : ℕ) (h : i * 2 ≤ length key
   rows-length rows room = length-append (billedFront d i keys) (drop (i * 5) rows) ∙ omega (arith, billed-length, length-drop (i * 5) rows)
 
 module _ (d : Description) (keys : List ℕ) (i : ℕ) (h : i * 2 + 2 ≤ length keys) where
-  abbrev key : ℕ × ℕ
-  key = (getD keys (i * 2) 0, getD keys (i * 2 + 1) 0)
-
   -- the next key is still there
   pub key-left : (k : ℕ) → getD (clearedKeys i keys) (i * 2 + k) 0 ≡ getD keys (i * 2 + k) 0
   key-left k =
@@ -56,13 +53,14 @@ module _ (d : Description) (keys : List ℕ) (i : ℕ) (h : i * 2 + 2 ≤ length
       ap (λ n. replicate n 0 ++ drop n keys) (sym e)
 
   -- the first i + 1 rows are the first i and the next
-  one-pair : pairs (take 2 (drop (i * 2) keys)) ≡ key ∷ []
+  one-pair : pairs (take 2 (drop (i * 2) keys)) ≡ keyAt keys i ∷ []
   one-pair =
       let words = rest keys 0 (i * 2) (omega arith) ∙ ap (λ l. getD keys (i * 2) 0 ∷ l) (rest keys 0 (i * 2 + 1) (omega arith)) in
+      let key = keyAt keys i in
       let alone : flat (key ∷ []) ≡ key .0 ∷ key .1 ∷ [] = flat-more key [] ∙ ap (λ (l : List ℕ). key .0 ∷ key .1 ∷ l) flat-none in
       ap (λ l. pairs (take 2 l)) words ∙ ap pairs (sym alone) ∙ pairs-flat (key ∷ [])
 
-  pub one-billed : billedFront d (i + 1) keys ≡ billedFront d i keys ++ billed d key
+  pub one-billed : billedFront d (i + 1) keys ≡ billedFront d i keys ++ billed d (keyAt keys i)
   one-billed =
       let e : (i + 1) * 2 ≡ i * 2 + 2 = omega arith in
       let front = take (i * 2) keys in
@@ -70,12 +68,12 @@ module _ (d : Description) (keys : List ℕ) (i : ℕ) (h : i * 2 + 2 ≤ length
       ap (λ n. joined (map (billed d) (pairs (take n keys)))) e ∙
       ap (λ l. joined (map (billed d) (pairs l))) (take-add (i * 2) 2 keys) ∙
       ap (λ l. joined (map (billed d) l)) (pairs-append front (take 2 (drop (i * 2) keys)) (omega arith) ∙ ap (λ l. pairs front ++ l) one-pair) ∙
-      ap joined (map-append (billed d) (pairs front) (key ∷ [])) ∙ joined-append (map (billed d) (pairs front)) (billed d key ∷ []) ∙
-      ap (λ l. billedFront d i keys ++ l) (append-nil (billed d key))
+      ap joined (map-append (billed d) (pairs front) (keyAt keys i ∷ [])) ∙ joined-append (map (billed d) (pairs front)) (billed d (keyAt keys i) ∷ []) ∙
+      ap (λ l. billedFront d i keys ++ l) (append-nil (billed d (keyAt keys i)))
 
   pub row-behind : (rows : List ℕ) → i * 5 + 5 ≤ length rows
-      → sets (billedFront d i keys ++ drop (i * 5) rows) (i * 5) (billed d key) ≡ billedFront d (i + 1) keys ++ drop ((i + 1) * 5) rows
+      → sets (billedFront d i keys ++ drop (i * 5) rows) (i * 5) (billed d (keyAt keys i)) ≡ billedFront d (i + 1) keys ++ drop ((i + 1) * 5) rows
   row-behind rows room =
       let e : i * 5 + 5 ≡ (i + 1) * 5 = omega arith in
-      stored-behind (billedFront d i keys) (billed d key) rows (i * 5) (billed-length d keys i (omega arith)) room ∙
+      stored-behind (billedFront d i keys) (billed d (keyAt keys i)) rows (i * 5) (billed-length d keys i (omega arith)) room ∙
       ap (λ l. l ++ drop (i * 5 + 5) rows) (sym one-billed) ∙ ap (λ n. billedFront d (i + 1) keys ++ drop n rows) e

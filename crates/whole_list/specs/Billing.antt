@@ -13,12 +13,16 @@ use Rattle.sorting.specs.Rows.{pairs}
 abbrev pub keyPlacement : Description → ℕ → List ℕ
 keyPlacement d place = digits (length (d .blocks)) place ++ replicate (16 - length (d .blocks)) 0
 
+-- key i
+abbrev pub keyAt : List ℕ → ℕ → ℕ × ℕ
+keyAt keys i = (getD keys (i * 2) 0, getD keys (i * 2 + 1) 0)
+
 -- a key's cost is that of its placement; so it is with the first n keys
 abbrev pub Priced : Description → ℕ × ℕ → Type 0
 Priced d key = key .0 ≡ cost d (keyPlacement d (key .1))
 
 abbrev pub AllPriced : Description → ℕ → List ℕ → Type 0
-AllPriced d n keys = (i : ℕ) → i < n → Priced d (getD keys (i * 2) 0, getD keys (i * 2 + 1) 0)
+AllPriced d n keys = (i : ℕ) → i < n → Priced d (keyAt keys i)
 
 -- the words of the row that has the key
 abbrev pub billed : Description → ℕ × ℕ → List ℕ

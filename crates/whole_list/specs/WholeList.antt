@@ -14,6 +14,13 @@ use Rattle.sequences.specs.Results.{Result, ok, refused, andThen}
 use Rattle.whole_list.specs.declared.Listed.{Listed}
 use Rattle.whole_list.specs.declared.Listed.the-variants.{Rows, Refused}
 
+-- the words of a row, and those of its key
+abbrev pub wordsOfRow : ℕ
+wordsOfRow = 5
+
+abbrev pub wordsOfKey : ℕ
+wordsOfKey = 2
+
 -- a row in lent words: its cost, the clouds of its blocks as digits to the base 8, and what storage, transfers and computing come to
 abbrev pub rowWords : Description → Row → List ℕ
 rowWords d r = rowKey d r .0 ∷ rowKey d r .1 ∷ r .bill .storage ∷ r .bill .transfer ∷ r .bill .cpu ∷ []
@@ -23,15 +30,15 @@ unfoldable pub listed : Description → List ℕ
 listed d = joined (map (rowWords d) (rows d))
 
 abbrev pub needed : Description → ℕ
-needed d = length (rows d) * 5
+needed d = length (rows d) * wordsOfRow
 
 -- what is always enough: there are no more rows than candidates, of which there are at most 65,536
 abbrev pub mostWords : ℕ
 mostWords = 327680
 
--- how many rows lent words have room for: five words each for the rows, and two for their keys in the scratch, where they are sorted
+-- how many rows lent words have room for: the rows have words of their own, and their keys are sorted in the scratch
 abbrev pub capacity : (rows scratch : ℕ) → ℕ
-capacity rows scratch = min (rows / 5) (scratch / 2)
+capacity rows scratch = min (rows / wordsOfRow) (scratch / wordsOfKey)
 
 -- List: how many rows there are and how many blocks a row has, or a refusal with its number and place
 abbrev pub listAnswer : Listed → Result (ℕ × ℕ)

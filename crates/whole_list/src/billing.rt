@@ -2,10 +2,10 @@
 ghost use mathlib.Core.Path.{_≡_};
 ghost use mathlib.Core.List.{[], _∷_, _++_};
 ghost use Prim.Native.Nat.{_+_, _*_, _≤_};
-ghost use lib.ListN.{length, drop, getD, replicate};
+ghost use lib.ListN.{length, drop, replicate};
 ghost use lib.Seq.{sets};
 ghost use Rattle.description.specs.Meaning.{describes};
-ghost use Rattle.whole_list.specs.Billing.{Priced, AllPriced, billed, billedFront};
+ghost use Rattle.whole_list.specs.Billing.{keyAt, Priced, AllPriced, billed, billedFront};
 use costs::answers::Bill;
 use costs::cost::bill_of;
 use description::words::Words;
@@ -33,9 +33,9 @@ fn put_row(rows: &mut [u64], at: usize, cost: u64, place: u64, bill: Bill)
 fn bill_row(w: &Words, blocks: usize, keys: &mut [u64], rows: &mut [u64], i: usize)
     requires { ⌜ (blocks ≡ length (describes (now w) .blocks)) × (blocks ≤ 16) ⌝ }
     requires { ⌜ (i * 2 + 2 ≤ length (now keys)) × (i * 5 + 5 ≤ length (now rows)) ⌝ }
-    requires { ⌜ Priced (describes (now w)) (getD (now keys) (i * 2) 0, getD (now keys) (i * 2 + 1) 0) ⌝ }
+    requires { ⌜ Priced (describes (now w)) (keyAt (now keys) i) ⌝ }
     ensures { λ _. ⌜ now (keys .exit) ≡ sets (now (keys .entry)) (i * 2) (0 ∷ 0 ∷ []) ⌝ }
-    ensures { λ _. ⌜ now (rows .exit) ≡ sets (now (rows .entry)) (i * 5) (billed (describes (now (w .entry))) (getD (now (keys .entry)) (i * 2) 0, getD (now (keys .entry)) (i * 2 + 1) 0)) ⌝ }
+    ensures { λ _. ⌜ now (rows .exit) ≡ sets (now (rows .entry)) (i * 5) (billed (describes (now (w .entry))) (keyAt (now (keys .entry)) i)) ⌝ }
 {
     let key = i * KEY_WORDS;
     let cost = keys[key];

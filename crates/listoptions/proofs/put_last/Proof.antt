@@ -62,8 +62,9 @@ returns-2 c =
     let listed = c .before .before .before .before .before .listed2 .given in
     let text = s .args .text .now in
     let after = p .last .1 .1 .0 in
+    let line = refusalLine (listed .0 .0 .number) (listed .0 .0 .place) in
     let (end, bytes) = answered text after 0 (p .result) (ap listAnswer (listed .1))
-    (fitted (refusalLine (listed .0 .0 .number) (listed .0 .0 .place)) text after 0 (p .result) 33 (omega arith) (omega arith) (p .ensures .0, p .ensures .1 .0, p .ensures .1 .1)) in
+    (fitted line text after 0 (p .result) 33 (omega arith) (omega arith) (p .ensures .0, p .ensures .1 .0, p .ensures .1 .1)) in
     (end ∙ zero-add _, bytes)
 
 pub put-last-spec : {M : Type 1} → statement M

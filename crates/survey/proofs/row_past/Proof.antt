@@ -11,7 +11,7 @@ use Rattle.costs.specs.Cost.{billOf, cost}
 use Rattle.packing.specs.Packing.{digits}
 use Rattle.visit.specs.Visits.{bestCostAt, bestPlaceAt}
 use Rattle.survey.specs.declared.Row.{Row}
-use Rattle.survey.specs.Answers.{rowIn, rowOr}
+use Rattle.survey.specs.Answers.{rowOr}
 use Rattle.survey.specs.Rows.{draw}
 use Rattle.survey.specs.Surveys.{Asks}
 use Rattle.survey.proofs.Joins.{starts, KeptRow, kept-by, none-kept, some-kept}
@@ -37,8 +37,8 @@ walk-candidates-requires c κs =
 array-read-if1 : tie.Need-array-read-if1
 array-read-if1 c = search needs
 
-no-row-requires : tie.Need-no-row-requires
-no-row-requires c κs = search needs
+zero-row-requires : tie.Need-zero-row-requires
+zero-row-requires c κs = search needs
 
 -- what the walk kept
 kept : (c : tie.After-walk-candidates)
@@ -59,7 +59,7 @@ returns c =
     let a = seen .before .before .before .before .before .args in
     let d = describes (a .w .now) in
     let e = none-kept d (draw d (a .cursor)) (seen .walk-candidates .last .1 .1 .0) (kept seen) (c .before .if1 .taken) in
-    (ap rowIn (c .no-row .ensures) ∙ sym e, ap (λ x. x .row) (c .no-row .ensures) ∙ ap rowOr (sym e))
+    (sym e, c .zero-row .ensures ∙ ap rowOr (sym e))
 
 array-read-cost : tie.Need-array-read-cost
 array-read-cost c = search needs
@@ -107,7 +107,7 @@ row-past-spec =
     slice-aggregate-walk-candidates
     walk-candidates-requires
     array-read-if1
-    no-row-requires
+    zero-row-requires
     returns
     array-read-cost
     array-read-unpacked
