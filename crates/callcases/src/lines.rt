@@ -112,6 +112,7 @@ fn put_row(out: &mut Buffer, at: usize, row: Row) -> usize
     put_bill(out, at, bill)
 }
 
+// Three numbers, each with a space before it.
 fn put_bill(out: &mut Buffer, at: usize, bill: Bill) -> usize
     requires { ⌜ at + 63 ≤ size ⌝ }
     ensures { λ r. ⌜ r ≤ at + 63 ⌝ }

@@ -12,7 +12,7 @@ use libc::STDOUT_FILENO;
 use list_text::rows::put_rows;
 use whole_list::Extent;
 use whole_list::Listed;
-use whole_list::billing::ROW_WORDS;
+use whole_list::ROW_WORDS;
 
 // Words for as many rows as there can be candidates, and for their keys.
 const HELD_WORDS: usize = 327680;

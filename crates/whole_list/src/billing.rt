@@ -6,17 +6,13 @@ ghost use lib.ListN.{length, drop, replicate};
 ghost use lib.Seq.{sets};
 ghost use Rattle.description.specs.Meaning.{describes};
 ghost use Rattle.whole_list.specs.Billing.{keyAt, Priced, AllPriced, billed, billedFront};
+use crate::KEY_WORDS;
+use crate::ROW_WORDS;
 use costs::answers::Bill;
 use costs::cost::bill_of;
 use description::words::Words;
 use description::workflow::block_count;
 use packing::unpacked;
-
-// The words of a row: its cost, its packed placement, and the amounts for storage, transfers and computing.
-pub const ROW_WORDS: usize = 5;
-
-// The words of its key: the first two of them.
-pub const KEY_WORDS: usize = 2;
 
 fn put_row(rows: &mut [u64], at: usize, cost: u64, place: u64, bill: Bill)
     requires { ⌜ at + 5 ≤ length (now rows) ⌝ }

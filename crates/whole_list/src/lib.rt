@@ -13,10 +13,8 @@ ghost use Rattle.survey.specs.Rows.{rows as rowsOf};
 ghost use Rattle.survey.specs.RowWords.{keysNeeded};
 ghost use Rattle.whole_list.specs.WholeList.{listed, needed, capacity, listAnswer, listedIn, listCall, replaced, cleared, rowsAfter, scratchAfter};
 
-pub mod billing;
+mod billing;
 
-use billing::KEY_WORDS;
-use billing::ROW_WORDS;
 use billing::bill_rows;
 use description::words::WORDS;
 use description::words::Words;
@@ -27,6 +25,12 @@ use judging::answers::Admission;
 
 // Lent memory is too short; the place says how much is needed.
 const SHORT_BUFFER: u8 = 16;
+
+// The words of a row: its cost, its packed placement, and the amounts for storage, transfers and computing.
+pub const ROW_WORDS: usize = 5;
+
+// The words of its key: the first two of them.
+const KEY_WORDS: usize = 2;
 
 // How many rows a list has, and how many blocks each of its placements.
 pub struct Extent {
