@@ -4,9 +4,9 @@ use Prim.Native.Nat.{ℕ, zero, suc, _+_, _-_, _*_, _/_, _≤_, _<_, min}
 use native.Mathlib.Decide.{decLt}
 use native.Mathlib.Omega.{arith}
 use mathlib.Core.Path.{_≡_, refl, sym, ap, ap₂, _∙_}
-use mathlib.Core.List.{List, [], _∷_, _++_, map, append-nil, List·Memᴰ, List·Memᴰ·head, List·Memᴰ·tail}
+use mathlib.Core.List.{List, [], _∷_, _++_, map, append-nil, append-assoc, List·Memᴰ, List·Memᴰ·head, List·Memᴰ·tail}
 use lib.ListN.{length, take, drop, replicate, length-append, length-take, length-drop}
-use lib.Seq.{take-at, take-all, drop-drop}
+use lib.Seq.{take-at, take-all, drop-drop, take-append-seam, drop-append-seam}
 use Rattle.sequences.specs.Lists.{from, below, joined}
 use Rattle.sequences.specs.Results.{Result, ok, refused}
 use Rattle.description.specs.Bytes.{Bytes, decidingBytes}
@@ -27,7 +27,7 @@ use Rattle.list_text.specs.Lines.{ascii, digit, decimal, amountText, rowLine, o
 use Rattle.list_text.specs.RowLines.{wordsLine, linesOf, rowsText}
 use Rattle.list_text.proofs.RowLines.{words-line, taken-apart}
 use Rattle.listoptions.specs.Printed.{rowLines, printedFor, printed}
-use Rattle.listoptions.specs.Making.{heldWords, heldKeys, heldBytes, pageRows, rowsOf, blocksOf, linesIn, pageText, lastLine}
+use Rattle.listoptions.specs.Making.{heldWords, heldKeys, heldBytes, pageRows, rowsOf, blocksOf, linesIn, pageText, lastLine, BeginsWith, NextBytes}
 
 -- ---- pages
 
@@ -164,15 +164,40 @@ pages-printed s words n bytes h =
     let after = printedWords answer (rowsAfter s heldRows words) in
     ap (λ l. l ++ lastLine answer) (pages-lines (blocksOf answer) n after h) ∙ lines-printed s words bytes
 
--- as many bytes as the lines and the last one have are as many as are printed
-pub all-written : (s words : List ℕ) → Bytes s → {answer : Result (ℕ × ℕ)} {after : List ℕ} {n blocks lines last : ℕ}
+-- the same of what List answered and left
+pub all-lines : (s words : List ℕ) → Bytes s → {answer : Result (ℕ × ℕ)} {after : List ℕ} {n blocks : ℕ}
     → answer ≡ listCall s heldRows → after ≡ rowsAfter s heldRows words → n ≡ rowsOf answer → blocks ≡ blocksOf answer
-    → lines ≡ length (linesIn blocks (take (n * 5) after)) → last ≡ length (lastLine answer) → lines + last ≡ length (printed s)
-all-written s words bytes {answer} {after} e f g h l k =
-    let text = linesIn (blocksOf answer) (printedWords answer after) in
-    let told = l ∙ ap₂ (λ (m b : ℕ). length (linesIn b (take (m * 5) after))) g h in
-    ap₂ _+_ told k ∙ sym (length-append text (lastLine answer)) ∙
-    ap₂ (λ x w. length (linesIn (blocksOf x) (printedWords x w) ++ lastLine x)) e f ∙ ap length (lines-printed s words bytes)
+    → linesIn blocks (take (n * 5) after) ++ lastLine answer ≡ printed s
+all-lines s words bytes {answer} {after} e f g h =
+    ap₂ (λ (m b : ℕ). linesIn b (take (m * 5) after) ++ lastLine answer) g h ∙
+    ap₂ (λ x w. linesIn (blocksOf x) (printedWords x w) ++ lastLine x) e f ∙ lines-printed s words bytes
+
+-- ---- what is handed over next
+
+-- behind a front stands the part that follows it
+pub next-bytes : (front part rest : List ℕ) {text : List ℕ} {done : ℕ} → (front ++ part) ++ rest ≡ text → done ≡ length front
+    → NextBytes text done part
+next-bytes front part rest {text} {done} e d =
+    let behind = sym (drop-append-seam front (part ++ rest)) ∙ ap (drop (length front)) (sym (append-assoc front part rest) ∙ e) in
+    sym (take-append-seam part rest) ∙ ap (take (length part)) (behind ∙ ap (λ n. drop n text) (sym d))
+
+-- of pages: page k stands behind the lines of the pages before it
+pub page-next : (blocks k : ℕ) (words : List ℕ) {text : List ℕ} {done : ℕ} → BeginsWith text (linesIn blocks words)
+    → done ≡ length (linesIn blocks (take (k * pageRows * 5) words)) → NextBytes text done (pageText blocks words k)
+page-next blocks k words (rest, e) d =
+    let b = min blocks 16 in
+    let m = (k + 1) * pageRows in
+    let n = length words in
+    let front = linesIn blocks (take (k * pageRows * 5) words) in
+    let page = pageText blocks words k in
+    let more = linesOf b (take (n * 5) (drop (m * 5) words)) in
+    let all : linesIn blocks words ≡ (front ++ page) ++ more =
+    ap (linesOf b) (sym (take-all ((m + n) * 5) words (omega arith))) ∙ taken-apart b m n words ∙ ap (λ l. l ++ more) (next-page blocks k words) in
+    next-bytes front page (more ++ rest) (sym (append-assoc (front ++ page) more rest) ∙ ap (λ l. l ++ rest) (sym all) ∙ e) d
+
+-- a text that was put at the front of a buffer is what is handed over of it
+pub front-is : (text old : List ℕ) {now : List ℕ} {end : ℕ} → end ≡ length text → now ≡ written text old 0 → take end now ≡ text
+front-is text old e h = ap₂ take e h ∙ take-append-seam text (drop (0 + length text) old)
 
 -- what is put at the front of a text ends within it
 pub text-within : (text old : List ℕ) {now : List ℕ} {end : ℕ} → end ≡ length text → now ≡ written text old 0 → end ≤ length now

@@ -2,7 +2,7 @@
 use Prim.Native.Nat.{ℕ, _*_, min}
 use mathlib.Core.Path.{_≡_}
 use mathlib.Core.Bool.{true}
-use mathlib.Core.List.{List}
+use mathlib.Core.List.{List, _++_}
 use lib.ListN.{length, take, drop}
 use Rattle.list_text.specs.Lines.{optionsLine, refusalLine}
 use Rattle.list_text.specs.RowLines.{wordsOfRow, bytesOfLine, linesOf}
@@ -45,6 +45,13 @@ abbrev pub lastLine : Result (ℕ × ℕ) → List ℕ
 lastLine (ok extent) = optionsLine (extent .0)
 lastLine (refused number place) = refusalLine number place
 
--- what was written is as long as the text, if all of it was taken
+-- a text begins with a part; a part is what stands in it behind so many bytes
+abbrev pub BeginsWith : (text part : List ℕ) → Type 0
+BeginsWith text part = (rest : List ℕ) × (part ++ rest ≡ text)
+
+abbrev pub NextBytes : (text : List ℕ) (done : ℕ) (part : List ℕ) → Type 0
+NextBytes text done part = part ≡ take (length part) (drop done text)
+
+-- if standard output took all that it was handed, it was handed as much as the text has
 abbrev pub Whole : Sent → List ℕ → Type 0
 Whole sent text = sent .whole ≡ true → sent .bytes ≡ length text

@@ -1,11 +1,12 @@
 // Lists the options of the description on standard input: a line for each row, cheapest first, and last their number. The lines are made
 // page by page, so that the text of 65,536 rows needs no room of its own on the stack.
-ghost use Prim.Native.Nat.{_*_, _≤_};
+ghost use Prim.Native.Nat.{_+_, _*_, _≤_};
 ghost use mathlib.Core.Path.{_≡_};
-ghost use lib.ListN.{length};
+ghost use lib.ListN.{length, take};
 ghost use Rattle.whole_list.specs.WholeList.{listAnswer};
 ghost use Rattle.list_text.specs.Lines.{written};
-ghost use Rattle.listoptions.specs.Making.{heldWords, heldKeys, heldBytes, pageRows, rowsOf, blocksOf, lastLine, pageText, linesIn, Whole};
+ghost use Rattle.list_text.specs.RowLines.{wordsOfRow};
+ghost use Rattle.listoptions.specs.Making.{heldWords, heldKeys, heldBytes, pageRows, rowsOf, blocksOf, lastLine, pageText, linesIn, BeginsWith, NextBytes, Whole};
 ghost use Rattle.listoptions.specs.Printed.{printed};
 use libc::STDIN_FILENO;
 use libc::STDOUT_FILENO;
@@ -24,7 +25,7 @@ const PAGE_ROWS: usize = 1024;
 
 const PAGE_BYTES: usize = 103424;
 
-// How many bytes were written, and whether standard output took all that there were to write.
+// How many bytes were handed to standard output, and whether it took them all.
 struct Sent {
     whole: bool,
     bytes: usize,
@@ -54,7 +55,7 @@ fn put_last(listed: Listed, text: &mut [u8]) -> usize
 
 // A page of the rows' lines.
 fn put_page(rows: &[u64], blocks: usize, page: usize, text: &mut [u8]) -> usize
-    requires { ⌜ (page * pageRows * 5 ≤ length (now rows)) × (length (now text) ≡ heldBytes) ⌝ }
+    requires { ⌜ (page * pageRows * wordsOfRow ≤ length (now rows)) × (length (now text) ≡ heldBytes) ⌝ }
     ensures { λ r. ⌜ r ≡ length (pageText blocks (now (rows .entry)) page) ⌝ }
     ensures { λ _. ⌜ now (text .exit) ≡ written (pageText blocks (now (rows .entry)) page) (now (text .entry)) 0 ⌝ }
 {
@@ -62,36 +63,45 @@ fn put_page(rows: &[u64], blocks: usize, page: usize, text: &mut [u8]) -> usize
     put_rows(&rows[first..], blocks, text)
 }
 
-fn write_front(text: &[u8], end: usize) -> bool
-    requires { ⌜ end ≤ length (now text) ⌝ }
+// Hands the front of the text to standard output; nothing else does. Of what was handed over no contract can say anything afterwards, so it
+// asks before: these are the next bytes of what is printed for the description, behind those that it was handed already.
+fn write_next(description: &[u8], sent: Sent, text: &[u8], end: usize) -> Sent
+    requires { ⌜ (end ≤ length (now text)) × (length (now text) ≡ heldBytes) × (sent .bytes ≤ 64 * heldBytes) ⌝ }
+    requires { ⌜ NextBytes (printed (now description)) (sent .bytes) (take end (now text)) ⌝ }
+    ensures { λ r. ⌜ r .bytes ≡ sent .bytes + end ⌝ }
 {
+    let bytes = sent.bytes + end;
     if io::write_all(STDOUT_FILENO, &text[..end]) {
-        return true;
+        return Sent { whole: true, bytes };
     }
     os::fail(b"listoptions: standard output");
-    false
+    Sent {
+        whole: false,
+        bytes,
+    }
 }
 
 // All pages, one after the other.
-fn write_pages(rows: &[u64], blocks: usize, text: &mut [u8]) -> Sent
+fn write_pages(description: &[u8], rows: &[u64], blocks: usize, text: &mut [u8]) -> Sent
     requires { ⌜ (length (now rows) ≤ heldWords) × (length (now text) ≡ heldBytes) ⌝ }
+    requires { ⌜ BeginsWith (printed (now description)) (linesIn blocks (now rows)) ⌝ }
     ensures { λ r. ⌜ Whole r (linesIn blocks (now (rows .entry))) ⌝ }
     ensures { λ r. ⌜ r .bytes ≤ 64 * heldBytes ⌝ }
 {
-    let mut bytes = 0;
+    let mut sent = Sent {
+        whole: true,
+        bytes: 0,
+    };
     let mut page = 0;
     while page * PAGE_ROWS * ROW_WORDS < rows.len() {
         let end = put_page(rows, blocks, page, text);
-        if !write_front(text, end) {
-            return Sent {
-                whole: false,
-                bytes,
-            };
+        sent = write_next(description, sent, text, end);
+        if !sent.whole {
+            return sent;
         }
-        bytes += end;
         page += 1;
     }
-    Sent { whole: true, bytes }
+    sent
 }
 
 // Everything that is printed for a description: the pages, and the last line.
@@ -101,15 +111,17 @@ fn write_list(description: &[u8], rows: &mut [u64], scratch: &mut [u64], text: &
 {
     let listed = whole_list::list(description, rows, scratch);
     let extent = extent_of(listed);
-    let sent = write_pages(&rows[..extent.rows * ROW_WORDS], extent.blocks, text);
+    let sent = write_pages(
+        description,
+        &rows[..extent.rows * ROW_WORDS],
+        extent.blocks,
+        text,
+    );
     if !sent.whole {
         return sent;
     }
     let end = put_last(listed, text);
-    Sent {
-        whole: write_front(text, end),
-        bytes: sent.bytes + end,
-    }
+    write_next(description, sent, text, end)
 }
 
 // A function for each of the large arrays: where one is made in place, its proof compares lists of that length.

@@ -1,13 +1,15 @@
--- The pages and the last line together are as long as what is printed.
-use Prim.Native.Nat.{ℕ, _*_, _≤_}
+-- The pages and the last line, one behind the other, are what is printed.
+use Prim.Native.Nat.{ℕ, _+_, _*_, _≤_}
 use native.Mathlib.Omega.{arith}
-use mathlib.Core.Path.{_≡_, sym, ap, _∙_}
+use mathlib.Core.Path.{_≡_, sym, ap, ap₂, subst, _∙_}
+use mathlib.Core.List.{List, [], _++_, append-nil}
 use mathlib.Core.Bool.{true≢false}
-use lib.ListN.{length, length-take}
+use lib.ListN.{length, take, length-take, length-append}
 use borrow.Author.Tests.{not-true, not-false}
 use Rattle.whole_list.specs.WholeList.{capacity, listAnswer, listCall, rowsAfter}
-use Rattle.listoptions.specs.Making.{heldBytes, lastLine}
-use Rattle.listoptions.proofs.Printing.{heldRows, rows-within, all-written, text-within}
+use Rattle.listoptions.specs.Making.{heldBytes, linesIn, lastLine, NextBytes}
+use Rattle.listoptions.specs.Printed.{printed}
+use Rattle.listoptions.proofs.Printing.{heldRows, rows-within, all-lines, next-bytes, front-is, text-within}
 use borrow.Author.Needs.{needs}
 use Rattle.listoptions.proofs.write_list.Statement.{statement}
 use Rattle.listoptions.proofs.write_list.Tie as tie
@@ -36,6 +38,23 @@ within c =
     let a = l .before .before .before .before .before .before .before .args in
     omega (arith, c .extent-of .ensures .0, rows-within (a .description .now) (listAnswer (l .list .result)) (answered l))
 
+-- the lines of the rows, and the last one
+abbrev lines : (c : tie.After-extent-of) → List ℕ
+lines c = linesIn (c .extent-of .result .blocks) (take (c .extent-of .result .rows * 5) (c .before .before .before .before .before .list .last .1 .0))
+
+abbrev last : (c : tie.After-list) → List ℕ
+last c = lastLine (listAnswer (c .list .result))
+
+together : (c : tie.After-extent-of) → let l = c .before .before .before .before .before in
+    lines c ++ last l ≡ printed (l .before .before .before .before .before .before .before .args .description .now)
+together c =
+    let l = c .before .before .before .before .before in
+    let start = l .before .before .before .before .before .before in
+    let a = start .before .args in
+    let after = l .list .ensures .1 .0 ∙ ap (λ (k : ℕ). rowsAfter (a .description .now) k (a .rows .now)) (room l) in
+    all-lines (a .description .now) (a .rows .now) (λ i. start .shared-slice-known .given i .fits) (answered l) after
+    (c .extent-of .ensures .0) (c .extent-of .ensures .1)
+
 mul-write-pages : tie.Need-mul-write-pages
 mul-write-pages c = omega (arith, within (c .before))
 
@@ -56,7 +75,8 @@ write-pages-requires c κs =
     let l = c .before .before .before .before .before .before .before .before in
     let h = l .before .before .before .before .before .before .before .pre in
     let n = c .before .before .before .extent-of .result .rows * 5 in
-    (omega (arith, within (c .before .before .before), length-take n (l .list .last .1 .0)), h .2)
+    let extent = c .before .before .before in
+    ((omega (arith, within extent, length-take n (l .list .last .1 .0)), h .2), (last l, together extent))
 
 same-length : tie.Need-same-length
 same-length c = search needs
@@ -73,32 +93,42 @@ returns c = λ e. absurd (true≢false (sym e ∙ not-true _ (c .if1 .taken)))
 put-last-requires : tie.Need-put-last-requires
 put-last-requires c κs = search needs
 
--- the last line ends within the text
-within-text : (c : tie.After-put-last) → c .put-last .result ≤ heldBytes
-within-text c =
-    let listed = c .before .before .before .before .before .before .before .before .before .before .before .before .before .before .before in
-    let s = listed .before .before .before .before .before .before .before in
-    let line = lastLine (listAnswer (listed .list .result)) in
-    omega (
-      arith,
-      text-within line _ (c .put-last .ensures .0) (c .put-last .ensures .1),
-      c .put-last .kept .1 .0,
-      c .before .before .before .before .before .before .write-pages .kept .1 .1 .0,
-      s .pre .2,
-    )
+-- all lines of the rows were taken
+sent : (c : tie.After-put-last) → let pages = c .before .before .before .before .before .before in
+    pages .write-pages .result .bytes ≡ length (lines (pages .before .before .before .before))
+sent c =
+    let else = c .before .before in
+    else .before .before .before .before .write-pages .ensures .0 (not-false _ (else .if1 .left))
 
-write-front-requires : tie.Need-write-front-requires
-write-front-requires c κs =
-    let last = c .before .before .before in
-    let listed = last .before .before .before .before .before .before .before .before .before .before .before .before .before .before .before in
-    text-within (lastLine (listAnswer (listed .list .result))) _ (last .put-last .ensures .0) (last .put-last .ensures .1)
+-- the last line is what is handed over next
+next : (c : tie.After-put-last) → let pages = c .before .before .before .before .before .before in
+    let a = pages .before .before .before .before .before .before .before .before .before .before .before .before .before .before .before .before .args in
+    NextBytes (printed (a .description .now)) (pages .write-pages .result .bytes) (take (c .put-last .result) (c .put-last .last .1 .0))
+next c =
+    let pages = c .before .before .before .before .before .before in
+    let extent = pages .before .before .before .before in
+    let l = extent .before .before .before .before .before in
+    let a = l .before .before .before .before .before .before .before .args in
+    let front = lines extent in
+    subst (NextBytes (printed (a .description .now)) (pages .write-pages .result .bytes))
+    (sym (front-is (last l) _ (c .put-last .ensures .0) (c .put-last .ensures .1)))
+    (next-bytes front (last l) [] (append-nil (front ++ last l) ∙ together extent) (sent c))
 
-add-t13 : tie.Need-add-t13
--- the last line is short
-add-t13 c =
-    let last = c .before .before .before .before .before in
-    let sent = last .before .before .before .before .before .before in
-    omega (arith, sent .write-pages .ensures .1, within-text (last))
+-- the text keeps its length
+text-size : (c : tie.After-put-last) → length (c .put-last .last .1 .0) ≡ heldBytes
+text-size c =
+    let pages = c .before .before .before .before .before .before in
+    let l = pages .before .before .before .before .before .before .before .before .before in
+    let s = l .before .before .before .before .before .before .before in
+    c .put-last .kept .1 .0 ∙ pages .write-pages .kept .1 .1 .1 .0 ∙ s .pre .2
+
+write-next-requires : tie.Need-write-next-requires
+write-next-requires c κs =
+    let put = c .before .before .before in
+    let pages = put .before .before .before .before .before .before in
+    let l = pages .before .before .before .before .before .before .before .before .before in
+    let ends = text-within (last l) _ (put .put-last .ensures .0) (put .put-last .ensures .1) in
+    ((ends, text-size put, pages .write-pages .ensures .1), next put)
 
 same-length-4 : tie.Need-same-length-4
 same-length-4 c = search needs
@@ -111,18 +141,11 @@ same-length-6 c = search needs
 
 returns-2 : tie.Need-returns-2
 returns-2 c =
-    let last = c .before .before .before .before .before in
-    let else = last .before .before in
-    let sent = else .before .before .before .before in
-    let extent = sent .before .before .before .before in
-    let listed = extent .before .before .before .before .before in
-    let start = listed .before .before .before .before .before .before in
-    let s = start .before in
-    let a = s .args in
-    let after = listed .list .ensures .1 .0 ∙ ap (λ (k : ℕ). rowsAfter (a .description .now) k (a .rows .now)) (room listed) in
-    let lines = sent .write-pages .ensures .0 (not-false _ (else .if1 .left)) in
-    λ _. all-written (a .description .now) (a .rows .now) (λ i. start .shared-slice-known .given i .fits) (answered listed) after
-    (extent .extent-of .ensures .0) (extent .extent-of .ensures .1) lines (last .put-last .ensures .0)
+    let put = c .before .before .before .before in
+    let extent = put .before .before .before .before .before .before .before .before .before .before in
+    let l = extent .before .before .before .before .before in
+    λ _. c .write-next .ensures ∙ ap₂ _+_ (sent put) (put .put-last .ensures .0) ∙ sym (length-append (lines extent) (last l)) ∙
+    ap length (together extent)
 
 pub write-list-spec : {M : Type 1} → statement M
 write-list-spec =
@@ -139,8 +162,7 @@ write-list-spec =
     same-length-3
     returns
     put-last-requires
-    write-front-requires
-    add-t13
+    write-next-requires
     same-length-4
     same-length-5
     same-length-6

@@ -1,9 +1,12 @@
--- The front of the text ends within it.
+-- The front of the text ends within it, and what was handed over stays far below a machine word.
 use native.Mathlib.Omega.{arith}
 use lib.ListN.{length-take}
 use borrow.Author.Needs.{needs}
-use Rattle.listoptions.proofs.write_front.Statement.{statement}
-use Rattle.listoptions.proofs.write_front.Tie as tie
+use Rattle.listoptions.proofs.write_next.Statement.{statement}
+use Rattle.listoptions.proofs.write_next.Tie as tie
+
+add-bytes : tie.Need-add-bytes
+add-bytes c = search needs
 
 slice-aggregate-write-all : tie.Need-slice-aggregate-write-all
 slice-aggregate-write-all c = simp length-take (omega arith)
@@ -23,10 +26,11 @@ fail-requires c κs = search needs
 returns-2 : tie.Need-returns-2
 returns-2 c = search needs
 
-pub write-front-spec : {M : Type 1} → statement M
-write-front-spec =
+pub write-next-spec : {M : Type 1} → statement M
+write-next-spec =
     tie.close
     (tie.spec
+    add-bytes
     slice-aggregate-write-all
     write-all-requires
     returns
