@@ -11,10 +11,11 @@
  *     1      the input stops within a command, or before the end command            offset of that command, or the length
  *     2      there is no such command                                               its offset
  *     3      something stands behind the end command                                its offset
- *     4      a cloud, block or edge more than there may be                          offset of the command
+ *     4      a cloud, block, edge or pair more than there may be                    offset of the command
  *     5      a level, location or clearance over 15                                 offset of the command
  *     6      it names what is not there, or what is of the wrong kind               offset of the command
- *     7      the edge is there already; the datum has a writer, the block a pin     offset of the command
+ *     7      the edge or pair is there already; the datum has a writer, the block   offset of the command
+ *            a pin; a datum is paired with itself
  *     8      no cloud, or no block                                                  the length
  *     9      rule 2: a service's location is above its clearance                    block
  *    10      rule 3: a service reads above its clearance                            edge
@@ -24,6 +25,10 @@
  *    14      rule 16: a read copies a datum to too low a cloud (the same two)       edge
  *    15      rule 17: a write does (the same two)                                   edge
  *    16      too little room (panel_transfers, panel_list)                          bytes, or words of rows, that are needed
+ *    17      a cloud holds both data of a pair (panel_judge, panel_transfers)       pair
+ *
+ * A pair is two data that command 07 keeps apart; pairs are numbered from 0, and copies that transfers make count. A placement is looked
+ * at for 13, 14, 15 and 17 in this order, and 16 comes last.
  *
  * Lent memory. A call reads and writes what it is lent and nothing else, and keeps no pointer. Where it answers 0 the arrays below are
  * written as each call says; after any refusal every lent byte is as it was. Pointers are not null, even with a length of 0, and words
@@ -75,12 +80,12 @@ extern "C" {
 uint64_t panel_read(const uint8_t *description, size_t length, uint64_t counts[3]);
 
 /*
- * Judge: is the placement secure? Refuses with 1 to 15; writes nothing.
+ * Judge: is the placement secure? Refuses with 1 to 15, and with 17; writes nothing.
  */
 uint64_t panel_judge(const uint8_t *description, size_t length, const uint8_t placement[16]);
 
 /*
- * Transfers: what a secure placement moves from cloud to cloud, in edge order. Refuses with 1 to 16.
+ * Transfers: what a secure placement moves from cloud to cloud, in edge order. Refuses with 1 to 17.
  * buffer: four bytes for each at the front: edge, datum, cloud that it leaves, cloud that it enters; the bytes behind them stay. room is
  *         its length in bytes.
  * count: how many transfers.
@@ -90,9 +95,10 @@ uint64_t panel_transfers(const uint8_t *description, size_t length, const uint8_
 
 /*
  * Census: how many placements and options there are. Refuses with 1 to 12.
- * figures: candidates, those that break rule 16, those that break rule 17 and not 16, secure ones, options.
+ * figures: candidates, those that break rule 16, those that break rule 17 and not 16, those that break neither but a pair, secure ones,
+ *          options.
  */
-uint64_t panel_census(const uint8_t *description, size_t length, uint64_t figures[5]);
+uint64_t panel_census(const uint8_t *description, size_t length, uint64_t figures[6]);
 
 /*
  * Draw: the first row from the start, where start is true (cost and placement are not looked at, but placement is still sixteen readable

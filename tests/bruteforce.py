@@ -29,7 +29,7 @@ from typing import NamedTuple
 
 # ---- The description ------------------------------------------------------------------
 
-END, CLOUD, DATUM, SERVICE, READS, WRITES, PIN = range(7)
+END, CLOUD, DATUM, SERVICE, READS, WRITES, PIN, APART = range(8)
 
 WIDTHS = {                      # of the operands of each command, in bytes
     END: (),
@@ -39,9 +39,10 @@ WIDTHS = {                      # of the operands of each command, in bytes
     READS: (1, 1),
     WRITES: (1, 1),
     PIN: (1, 1),
+    APART: (1, 1),
 }
 
-MOST_CLOUDS, MOST_BLOCKS, MOST_EDGES, MOST_CANDIDATES = 8, 16, 32, 65536
+MOST_CLOUDS, MOST_BLOCKS, MOST_EDGES, MOST_PAIRS, MOST_CANDIDATES = 8, 16, 32, 8, 65536
 HIGHEST = 15                    # for levels, locations and clearances
 
 
@@ -86,6 +87,7 @@ class Description:
         self.blocks = []        # each a Datum or a Service
         self.edges = []
         self.pins = {}          # block -> cloud
+        self.apart = []         # pairs of data that no cloud may hold both of
 
     def data(self):
         return [b for b, block in enumerate(self.blocks) if isinstance(block, Datum)]
@@ -116,6 +118,8 @@ class Description:
         elif command == PIN:
             block, cloud = operands
             self.pins[block] = cloud
+        elif command == APART:
+            self.apart.append(tuple(operands))
 
 
 def one_too_many(described, command):
@@ -125,6 +129,8 @@ def one_too_many(described, command):
         return len(described.blocks) == MOST_BLOCKS
     if command in (READS, WRITES):
         return len(described.edges) == MOST_EDGES
+    if command == APART:
+        return len(described.apart) == MOST_PAIRS
     return False
 
 
@@ -143,6 +149,8 @@ def misnamed(described, command, operands):
     if command == PIN:
         block, cloud = operands
         return block >= len(described.blocks) or cloud >= len(described.clouds)
+    if command == APART:
+        return any(name not in described.data() for name in operands)
     return False
 
 
@@ -153,6 +161,9 @@ def said_before(described, command, operands):
         return repeated or written
     if command == PIN:
         return operands[0] in described.pins
+    if command == APART:                                   # a datum is not apart from itself
+        one, other = operands
+        return one == other or any(set(pair) == {one, other} for pair in described.apart)
     return False
 
 
@@ -306,8 +317,26 @@ def first_broken(described, placement, command):
     return None
 
 
+def holders(described, placement, datum):
+    """The clouds that hold the datum: its own, and those where a transfer leaves a copy."""
+    clouds = {placement[datum]}
+    for edge in described.edges:
+        source, destination = ends(edge, placement)
+        if edge.datum == datum and source != destination:
+            clouds.add(placement[edge.service])
+    return clouds
+
+
+def first_meeting(described, placement):
+    """The first pair whose data some cloud holds both of, or None."""
+    for number, (one, other) in enumerate(described.apart):
+        if holders(described, placement, one) & holders(described, placement, other):
+            return number
+    return None
+
+
 def check_placement(described, placement):
-    """Refuses with 13, 14 or 15; a placement that passes is secure."""
+    """Refuses with 13, 14, 15 or 17; a placement that passes is secure."""
     position = bad_position(described, placement)
     if position is not None:
         raise Refused(13, position)
@@ -315,6 +344,9 @@ def check_placement(described, placement):
         edge = first_broken(described, placement, command)
         if edge is not None:
             raise Refused(number, edge)
+    pair = first_meeting(described, placement)
+    if pair is not None:
+        raise Refused(17, pair)
 
 
 def moves(described, placement):
@@ -381,7 +413,8 @@ def option_of(described):
 
 def is_secure(described, candidate):
     return (first_broken(described, candidate, READS) is None
-            and first_broken(described, candidate, WRITES) is None)
+            and first_broken(described, candidate, WRITES) is None
+            and first_meeting(described, candidate) is None)
 
 
 class Row(NamedTuple):
@@ -435,6 +468,7 @@ class Census(NamedTuple):
     candidates: int
     breaking_16: int
     breaking_17_only: int
+    apart_only: int
     secure: int
     options: int
 
@@ -443,7 +477,7 @@ class Census(NamedTuple):
 def census(text):
     described = read(text)
     option = option_of(described)
-    every = breaking_16 = breaking_17_only = secure = 0
+    every = breaking_16 = breaking_17_only = apart_only = secure = 0
     options = set()
     for placement in candidates(described):
         every += 1
@@ -451,10 +485,12 @@ def census(text):
             breaking_16 += 1
         elif first_broken(described, placement, WRITES) is not None:
             breaking_17_only += 1
+        elif first_meeting(described, placement) is not None:
+            apart_only += 1
         else:
             secure += 1
             options.add(option(placement))
-    return Census(every, breaking_16, breaking_17_only, secure, len(options))
+    return Census(every, breaking_16, breaking_17_only, apart_only, secure, len(options))
 
 
 @functools.lru_cache(maxsize=KEPT)
@@ -666,6 +702,10 @@ def pin(block, to):
     return encode(PIN, block, to)
 
 
+def apart(one, other):
+    return encode(APART, one, other)
+
+
 STOP = encode(END)
 
 
@@ -732,6 +772,7 @@ M = b"".join(M_COMMANDS)
 # Sound beginnings, all without their 00.
 PAIR = cloud(1) + datum(1) + service(0, 1)                 # block 0 a datum, 1 a service
 TRIO = PAIR + service(1, 1)                                # and 2 a second service
+FILES = cloud(1) + datum() * 4 + service() * 2             # data 0 to 3, services 4 and 5
 EIGHT_CLOUDS = b"".join(cloud(height) for height in range(8))
 SIXTEEN_BLOCKS = cloud() + cloud() + datum() * 8 + service() * 8
 SIXTEEN_PINS = b"".join(pin(block, block % 2) for block in range(16))
@@ -740,10 +781,21 @@ ALL_READ = b"".join(reads(8 + e // 8, e % 8) for e in range(32))
 SOME_WRITE = ALL_READ[:3 * 24] + b"".join(writes(11 + d // 2, d) for d in range(8))
 THIRTY_TWO_EDGES = SIXTEEN_BLOCKS + ALL_READ
 MIXED_EDGES = SIXTEEN_BLOCKS + SOME_WRITE
-# No sound description is longer: thirteen services and three data still give 32 edges.
+# No sound description without pairs is longer: thirteen services and three data still give
+# 32 edges.
 LONGEST = (EIGHT_CLOUDS + datum() * 3 + service(0, 0) * 13
            + b"".join(reads(3 + e // 3, e % 3) for e in range(32))
            + b"".join(pin(block, block % 8) for block in range(16)) + STOP)
+
+# Of the ten pairs of five data, the first eight; service 5 is there to be named by mistake.
+FIVE_DATA = cloud() * 2 + datum() * 5 + service()
+PAIRS_OF_FIVE = list(itertools.combinations(range(5), 2))
+EIGHT_APART = b"".join(apart(*pair) for pair in PAIRS_OF_FIVE[:8])
+EIGHT_PAIRS = FIVE_DATA + EIGHT_APART
+# With pairs none is longer than this: eight of them take five data.
+LONGEST_APART = (EIGHT_CLOUDS + datum() * 5 + service() * 11
+                 + b"".join(reads(5 + e // 5, e % 5) for e in range(32))
+                 + b"".join(pin(block, block % 8) for block in range(16)) + EIGHT_APART + STOP)
 
 # A sound description whose commands come mixed, with pins of both kinds of block.
 MIXED_COMMANDS = [
@@ -751,6 +803,14 @@ MIXED_COMMANDS = [
     cloud(2, 4, 3, 2, 1), datum(1, 11, 65535), writes(1, 2), service(0, 1, 0xFFFFFFFF),
     pin(3, 1), cloud(0, 65535, 65535, 65535, 65535), reads(3, 2), writes(1, 0), reads(1, 2),
     datum(0, 65535, 1), writes(3, 4), pin(4, 2), STOP]
+
+# Pairs as early as they can stand: before the clouds, the edges and the pins.
+APART_COMMANDS = [
+    datum(1, 3, 2), datum(0, 9, 1), apart(1, 0), cloud(1, 1, 2, 3, 4), service(0, 1, 5),
+    datum(0, 12, 3), apart(3, 1), cloud(1, 2, 1, 1, 5), reads(2, 0), cloud(0, 3, 1, 1, 1),
+    apart(0, 3), pin(0, 1), writes(2, 0), STOP]
+
+M_APART = M[:-1] + apart(0, 4) + STOP                      # M's first and last file
 
 
 def ruled(*edges):
@@ -768,14 +828,17 @@ def counted(choices, *pins):
 # For each number of Read, a description it refuses, and the place.
 REFUSED_BY_READ = [
     (M[:40], 1, 39), (M[:-1], 1, 64), (b"", 1, 0),
-    (M[:52] + b"\x07" + M[52:], 2, 52),
+    (M[:52] + b"\x09" + M[52:], 2, 52),
     (M + b"\0", 3, 65), (M + b"\xff" * 1200, 3, 65),
     (EIGHT_CLOUDS + cloud() + datum() + STOP, 4, 80),
     (SIXTEEN_BLOCKS + datum() + STOP, 4, 124),
     (THIRTY_TWO_EDGES + reads(15, 0) + STOP, 4, 220),
+    (EIGHT_PAIRS + apart(4, 3) + STOP, 4, 81),
     (PAIR + datum(16) + STOP, 5, 23),
     (PAIR + reads(0, 1) + STOP, 6, 23),
+    (FILES + apart(0, 4) + STOP, 6, 48),
     (PAIR + pin(0, 0) + pin(0, 0) + STOP, 7, 26),
+    (FILES + apart(0, 1) + apart(1, 0) + STOP, 7, 51),
     (STOP, 8, 1), (cloud() + STOP, 8, 11), (datum() + STOP, 8, 7),
     (PAIR + service(2, 1) + STOP, 9, 2),
     (ruled(reads(4, 0), reads(4, 3)) + STOP, 10, 1),
@@ -787,7 +850,7 @@ REFUSED_BY_READ = [
 # ---- The stored cases: Read -----------------------------------------------------------
 
 ONE_OF_EACH = [cloud(1, 2, 3, 4, 5), datum(1, 2, 3), service(1, 1, 2), reads(1, 0),
-               writes(1, 0), pin(0, 0)]
+               writes(1, 0), pin(0, 0), apart(0, 1)]
 
 
 def cut_at_each_length(commands):
@@ -803,10 +866,12 @@ def read_cut_short():
         for command in ONE_OF_EACH:
             for length in range(1, len(command)):
                 yield refused(before + command[:length], 1, len(before))
-    for text in (PAIR, TRIO, EIGHT_CLOUDS, SIXTEEN_BLOCKS, THIRTY_TWO_EDGES, LONGEST[:-1]):
+    for text in (PAIR, TRIO, EIGHT_CLOUDS, SIXTEEN_BLOCKS, THIRTY_TWO_EDGES, LONGEST[:-1],
+                 EIGHT_PAIRS, LONGEST_APART[:-1]):
         yield refused(text, 1, len(text))
     yield from cut_at_each_length(M_COMMANDS)
     yield from cut_at_each_length(MIXED_COMMANDS)
+    yield from cut_at_each_length(APART_COMMANDS)
 
 
 def read_cut_short_and_at_fault():
@@ -818,36 +883,42 @@ def read_cut_short_and_at_fault():
             (THIRTY_TWO_EDGES, reads(15, 7)), (THIRTY_TWO_EDGES, writes(255, 255)),
             (PAIR, reads(0, 1)), (PAIR, writes(9, 9)), (PAIR, pin(7, 7)), (PAIR, pin(0, 9)),
             (PAIR + reads(1, 0), reads(1, 0)), (PAIR + writes(1, 0), writes(1, 0)),
-            (PAIR + pin(1, 0), pin(1, 0))):
+            (PAIR + pin(1, 0), pin(1, 0)), (EIGHT_PAIRS, apart(3, 4)), (EIGHT_PAIRS, apart(5, 9)),
+            (FILES, apart(0, 4)), (FILES, apart(6, 0)), (FILES, apart(2, 2)),
+            (FILES + apart(0, 1), apart(0, 1)), (FILES + apart(0, 1), apart(1, 0))):
         for length in range(1, len(command)):
             yield refused(before + command[:length], 1, len(before))
 
 
 def read_unknown():
-    for code in (*range(7, 17), 0x20, 0x40, 0x7F, 0x80, 0xA5, 0xFE, 0xFF):
+    for code in (*range(8, 17), 0x20, 0x40, 0x7F, 0x80, 0xA5, 0xFE, 0xFF):
         for before in (b"", PAIR, M[:-1]):
             yield refused(before + bytes([code]), 2, len(before))
         yield refused(PAIR + bytes([code]) + STOP, 2, len(PAIR))
-    for before in (EIGHT_CLOUDS, SIXTEEN_BLOCKS, THIRTY_TWO_EDGES, LONGEST[:-1], M[:52]):
-        yield refused(before + b"\x07", 2, len(before))
+    for before in (EIGHT_CLOUDS, SIXTEEN_BLOCKS, THIRTY_TWO_EDGES, LONGEST[:-1], M[:52],
+                   EIGHT_PAIRS, LONGEST_APART[:-1]):
+        yield refused(before + b"\x09", 2, len(before))
         yield refused(before + b"\xff" + M, 2, len(before))
 
 
 def read_past_the_end():
-    for tail in (b"\0", b"\1", b"\7", b"\xff", b"\0\0", M, cloud(), STOP * 40, b"\xff" * 300):
+    for tail in (b"\0", b"\1", b"\7", b"\x09", b"\xff", b"\0\0", M, cloud(), apart(0, 4),
+                 STOP * 40, b"\xff" * 300):
         yield refused(M + tail, 3, len(M))
         yield refused(STOP + tail, 3, 1)
     unsound = [cloud() + STOP, datum() + STOP]             # 3 is looked for before 8 to 12
     unsound += [text for text, number, _ in REFUSED_BY_READ if number >= 8]
-    for text in unsound + [LONGEST]:
+    for text in unsound + [LONGEST, LONGEST_APART]:
         yield refused(text + b"\0", 3, len(text))
         yield refused(text + M, 3, len(text))
     for length in (1000, 3000, 7000, 10000):
         yield refused(M + bytes(i % 251 for i in range(length)), 3, len(M))
     yield refused(M + M * 20, 3, len(M))
-    yield refused(b"\7" + b"\0" * 2000, 2, 0)
+    yield refused(b"\x09" + b"\0" * 2000, 2, 0)
     yield refused(EIGHT_CLOUDS + cloud() * 150, 4, len(EIGHT_CLOUDS))
     yield refused(PAIR + pin(0, 0) * 500, 7, len(PAIR) + 3)
+    yield refused(FILES + apart(0, 1) * 500, 7, len(FILES) + 3)
+    yield refused(EIGHT_PAIRS + apart(2, 4) * 500, 4, len(EIGHT_PAIRS))
     yield refused(M.ljust(65535, b"\0"), 3, len(M))        # the longest a case can hold
 
 
@@ -1017,7 +1088,8 @@ def read_counted(choices):
 
 def read_first_fault_decides():
     faults = [(2, b"\x09"), (5, cloud(16)), (5, service(0, 16)), (6, reads(0, 0)),
-              (6, pin(0, 7)), (7, reads(1, 0)), (7, pin(1, 0))]
+              (6, pin(0, 7)), (7, reads(1, 0)), (7, pin(1, 0)), (6, apart(0, 1)),
+              (7, apart(0, 0))]
     before = PAIR + reads(1, 0) + pin(1, 0)
     for (number, command), (_, later) in itertools.permutations(faults, 2):
         yield refused(before + command + later + STOP, number, len(before))
@@ -1035,6 +1107,66 @@ def read_shapes():
     yield accepted(cycle + reads(1, 0) + writes(1, 2) + reads(3, 2) + writes(3, 0) + STOP, 1, 4, 4)
     yield accepted(M, 2, 5, 4)
     yield accepted(b"".join(MIXED_COMMANDS), 3, 5, 6)
+
+
+def read_apart():
+    """Command 07: what it accepts, and its faults in their order."""
+    for count in range(9):                                 # pairs are not among Read's counts
+        pairs = b"".join(apart(*pair) for pair in PAIRS_OF_FIVE[-count:] if count)
+        yield accepted(FIVE_DATA + pairs + STOP, 2, 6, 0)
+        yield accepted(FIVE_DATA + pairs + writes(5, 4) + STOP, 2, 6, 1)
+    yield accepted(EIGHT_PAIRS + STOP, 2, 6, 0)
+    yield accepted(LONGEST_APART, 8, 16, 32)
+    yield accepted(b"".join(APART_COMMANDS), 3, 4, 2)
+    yield accepted(M_APART, 2, 5, 4)
+    yield accepted(datum() * 2 + apart(1, 0) + cloud() + STOP, 1, 2, 0)
+    yield accepted(cloud() * 2 + datum() * 16 + apart(15, 14) + apart(0, 15) + STOP, 2, 16, 0)
+    yield accepted(FILES + reads(4, 0) + writes(4, 1) + apart(0, 1) + STOP, 1, 6, 2)
+    yield from read_apart_names()
+    yield from read_apart_repeats()
+    # A ninth is that, whatever it names: a sound pair, one repeated, and what would be 6 or 7.
+    for before in (EIGHT_PAIRS, LONGEST_APART[:-1]):
+        yield from refused_at_each(
+            4, before, apart(2, 4), apart(4, 3), apart(0, 1), apart(1, 0), apart(3, 3),
+            apart(5, 0), apart(0, 5), apart(6, 6), apart(16, 0), apart(0, 255), apart(255, 255))
+    # It comes before what is looked for in the whole description, and leaves the candidates be.
+    yield refused(datum() * 2 + apart(0, 1) + STOP, 8, 16)
+    yield refused(PAIR + datum() + service(2, 1) + apart(0, 2) + STOP, 9, 3)
+    yield refused(PAIR + datum() + service(2, 1) + apart(0, 3) + STOP, 6, 36)
+    yield refused(ruled(apart(0, 1), reads(4, 0), apart(1, 2), reads(4, 3)) + STOP, 10, 1)
+    yield refused(cloud() * 3 + datum() * 11 + apart(0, 1) + STOP, 12, 0)
+    yield refused(cloud() * 3 + datum() * 11 + apart(0, 1) + apart(1, 0) + STOP, 7, 99)
+    yield accepted(cloud() * 3 + datum() * 10 + apart(0, 1) + STOP, 3, 10, 0)
+
+
+def read_apart_names():
+    yield from refused_at_each(
+        6, FILES, apart(0, 4), apart(4, 0), apart(4, 5),   # services
+        apart(6, 0), apart(0, 6), apart(6, 7), apart(15, 0), apart(0, 15), apart(16, 1),
+        apart(1, 16), apart(255, 0), apart(0, 255), apart(4, 6), apart(6, 4),
+        apart(4, 4), apart(6, 6), apart(255, 255))         # 6 before 7
+    yield from refused_at_each(6, FILES + apart(0, 1), apart(0, 5), apart(5, 1), apart(1, 9))
+    yield from refused_at_each(6, b"", apart(0, 1), apart(0, 0))
+    yield from refused_at_each(6, cloud() * 5, apart(0, 1), apart(3, 4))
+    yield from refused_at_each(6, cloud() + service() * 3, apart(0, 1), apart(2, 2))
+    yield from refused_at_each(6, SIXTEEN_BLOCKS, apart(7, 8), apart(8, 7), apart(16, 0))
+    # Declared, but only later.
+    yield refused(cloud() + datum() + apart(0, 1) + datum() + STOP, 6, 16)
+    yield refused(cloud() + datum() + apart(1, 0) + datum() + STOP, 6, 16)
+    yield refused(cloud() + apart(0, 1) + datum() * 2 + STOP, 6, 10)
+
+
+def read_apart_repeats():
+    yield from refused_at_each(7, FILES, *(apart(name, name) for name in range(4)))
+    for between in (b"", datum(), cloud(3), service(), reads(4, 0), writes(4, 1), pin(1, 0),
+                    apart(2, 3), apart(0, 2) + apart(3, 1)):
+        yield from refused_at_each(7, FILES + apart(0, 1) + between, apart(0, 1), apart(1, 0),
+                                   apart(1, 1))
+    # Any of those before it, in either order.
+    before = FIVE_DATA + EIGHT_APART[:-3]
+    for one, other in PAIRS_OF_FIVE[:7]:
+        yield from refused_at_each(7, before, apart(one, other), apart(other, one))
+    yield accepted(before + apart(4, 2) + STOP, 2, 6, 0)
 
 
 # Random descriptions.
@@ -1114,11 +1246,12 @@ def commands_of(dice, made):
          for each in made.blocks],
         [(0, max(edge.service, edge.datum) + 1, encode(*edge)) for edge in made.edges],
         [(to + 1, block + 1, pin(block, to)) for block, to in made.pins.items()],
+        [(0, max(pair) + 1, apart(*pair)) for pair in made.apart],
     ]
     commands = []
-    declared = [0, 0, 0, 0]                                # how many left each queue
+    declared = [0] * len(queues)                           # how many left each queue
     while any(queues):
-        ready = [q for q in range(4) if queues[q] and queues[q][0][0] <= declared[0]
+        ready = [q for q in range(len(queues)) if queues[q] and queues[q][0][0] <= declared[0]
                  and queues[q][0][1] <= declared[1]]
         q = dice.choice(ready)
         commands.append(queues[q].pop(0)[2])
@@ -1139,15 +1272,18 @@ def damage_bytes(dice, text):
         return text[:at] + dice.bytes(1) + text[at + 1:]
     if kind == 2:
         return text[:at] + text[at + 1:]
-    if kind == 3:
-        return text[:at] + bytes([dice.below(8)]) + text[at:]
+    if kind == 3:                                          # 09 is no command
+        return text[:at] + bytes([dice.choice((*range(7), 9))]) + text[at:]
     if kind == 4:
         return text[:at]
     return text + dice.bytes(dice.between(1, 9))
 
 
-def damage_commands(dice, commands):
-    """Repeat, drop, exchange or add whole commands, so that the framing stays sound."""
+def damage_commands(dice, commands, added=None):
+    """Repeat, drop, exchange or add whole commands, so that the framing stays sound.
+
+    What is added is any command, or the one that is given.
+    """
     changed = list(commands)
     at, other = dice.below(len(changed)), dice.below(len(changed))
     kind = dice.below(4)
@@ -1158,7 +1294,7 @@ def damage_commands(dice, commands):
     elif kind == 2:
         changed[at], changed[other] = changed[other], changed[at]
     else:
-        changed.insert(at, random_command(dice))
+        changed.insert(at, random_command(dice) if added is None else added)
     return b"".join(changed)
 
 
@@ -1166,6 +1302,40 @@ def random_command(dice):
     command = dice.choice((CLOUD, DATUM, SERVICE, READS, WRITES, PIN, READS, WRITES, PIN))
     return encode(command, *(dice.below(18) if width == 1 else dice.below(100)
                              for width in WIDTHS[command]))
+
+
+def add_random_pairs(dice, made):
+    """Pairs of data, named in either order; rarely of two that a service has to do with both."""
+    def services_of(datum):
+        return {edge.service for edge in made.edges if edge.datum == datum}
+
+    pairs = [pair for pair in itertools.combinations(made.data(), 2)
+             if dice.one_in(5) or services_of(pair[0]).isdisjoint(services_of(pair[1]))]
+    most = dice.choice((1, 1, 1, 2, 2, 3, MOST_PAIRS))
+    made.apart = [tuple(dice.shuffled(pair)) for pair in dice.shuffled(pairs)[:most]]
+
+
+def apart_workflow(dice):
+    """A random workflow with a pair at least."""
+    made = random_workflow(dice)
+    while not made.apart:
+        made = random_workflow(dice)
+        add_random_pairs(dice, made)
+    return made
+
+
+def read_apart_random(dice):
+    for mask in (0x01, 0x80, 0xFF):
+        for at in range(len(M_APART) - 5, len(M_APART)):
+            yield read_case(M_APART[:at] + bytes([M_APART[at] ^ mask]) + M_APART[at + 1:])
+    for _ in range(60):
+        yield read_case(b"".join(commands_of(dice, apart_workflow(dice))))
+    for _ in range(60):
+        yield read_case(damage_bytes(dice, b"".join(commands_of(dice, apart_workflow(dice)))))
+    for _ in range(120):
+        added = apart(dice.below(8), dice.below(8))
+        commands = commands_of(dice, apart_workflow(dice))
+        yield read_case(damage_commands(dice, commands, added))
 
 
 def read_random(dice):
@@ -1197,9 +1367,10 @@ def read_random(dice):
 def read_cases(dice):
     for part in (read_cut_short, read_cut_short_and_at_fault, read_unknown, read_past_the_end, read_limits,
                  read_heights, read_names, read_repeats, read_nothing_there, read_rules, read_candidate_counts,
-                 read_first_fault_decides, read_shapes):
+                 read_first_fault_decides, read_shapes, read_apart):
         yield from part()
     yield from read_random(dice)
+    yield from read_apart_random(dice)
 
 
 # ---- The stored cases: Judge ----------------------------------------------------------
@@ -1240,6 +1411,7 @@ def judge_by_hand():
     yield judge_case(STEPS + STOP, placed(1, 2, 2, 2, 0, 0, 7, 0, 0, 1), "refused 13 6")
     yield from judge_pins()
     yield from judge_shapes()
+    yield from judge_apart()
 
 
 def judge_pins():
@@ -1329,6 +1501,131 @@ def judge_late_edges():
         yield judge_case(text + edges + STOP, placement, f"refused 14 {2 * high + 1}")
 
 
+def meeting(edges, pairs=apart(0, 1)):
+    """Data 0 and 1 apart, services 2 and 3, three clouds that are good enough for everything."""
+    return cloud() * 3 + datum() * 2 + service() * 2 + pairs + edges + STOP
+
+
+# Clouds at levels 0, 1, 1; data 0 and 1 at level 1 apart; service 2 reads 0 and 3 writes 1.
+GUARDED = (cloud(0) + cloud(1) * 2 + datum(1) * 2 + service(0, 1) * 2 + reads(2, 0) + writes(3, 1)
+           + apart(0, 1) + STOP)
+
+
+def judge_apart():
+    """Number 17: where two data meet, which pair is named, and what comes before it."""
+    for pairs in (apart(0, 1), apart(1, 0)):
+        # Side by side; services without edges stand anywhere.
+        for placement, expected in ((placed(0, 0, 1, 2), "refused 17 0"),
+                                    (placed(2, 2, 0, 1), "refused 17 0"),
+                                    (placed(0, 1, 0, 1), "secure"),
+                                    (placed(0, 1, 1, 0), "secure"),
+                                    (placed(2, 0, 1, 1), "secure")):
+            yield judge_case(meeting(b"", pairs), placement, expected)
+        for one, other in itertools.product((reads, writes), repeat=2):
+            yield from judge_copies(one, other, pairs)
+    # A service that has to do with both is where both are.
+    for one, other in itertools.product((reads, writes), repeat=2):
+        for clouds in itertools.product(range(3), repeat=3):
+            yield judge_case(meeting(one(2, 0) + other(2, 1)), placed(*clouds), "refused 17 0")
+    for clouds in itertools.product((0, 1), repeat=5):
+        yield judge_case(M_APART, placed(*clouds), judged_by_hand(*clouds))
+    yield from judge_apart_places()
+    yield from judge_apart_before_and_after()
+
+
+def judged_by_hand(rushes, first, between, second, film):
+    """M with datum 0 apart from 4, its blocks on clouds 0 and 1 as they are named here."""
+    if rushes == 0:
+        return "refused 13 0"
+    if first == 0:
+        return "refused 14 0"
+    return "secure" if second == film == 0 else "refused 17 0"
+
+
+def judge_copies(one, other, pairs):
+    """Service 2 reads or writes datum 0, 3 reads or writes 1: a copy lies where they stand."""
+    for edges in (one(2, 0), one(2, 0) + other(3, 1), other(3, 1) + one(2, 0)):
+        text = meeting(edges, pairs)
+        for placement, expected in (
+                (placed(0, 1, 0, 1), "secure"),            # no copies
+                (placed(0, 1, 2, 1), "secure"),            # one, on a cloud of its own
+                (placed(0, 1, 1, 1), "refused 17 0"),      # a copy of 0 beside 1
+                (placed(1, 0, 0, 0), "refused 17 0"),
+                (placed(0, 0, 2, 1), "refused 17 0"),      # copies elsewhere are no excuse
+                (placed(2, 2, 2, 2), "refused 17 0")):
+            yield judge_case(text, placement, expected)
+    text = meeting(one(2, 0) + other(3, 1), pairs)
+    for placement, expected in (
+            (placed(0, 1, 0, 2), "secure"),
+            (placed(0, 1, 2, 2), "refused 17 0"),          # two copies and neither datum
+            (placed(0, 1, 0, 0), "refused 17 0"),          # a copy of 1 beside 0
+            (placed(0, 1, 1, 0), "refused 17 0")):
+        yield judge_case(text, placement, expected)
+
+
+# Sixteen data in eight pairs, two by two; and the same pairs from the last to the first.
+TWO_BY_TWO = cloud() * 2 + datum() * 16
+EIGHT_TWOS = [apart(2 * pair, 2 * pair + 1) for pair in range(8)]
+
+
+def together(pairs):
+    """The data of these pairs side by side, those of the others on two clouds."""
+    return bytes(0 if block // 2 in pairs else block % 2 for block in range(16))
+
+
+def judge_apart_places():
+    """The first broken pair is named, by its place among the commands 07 alone."""
+    forward = TWO_BY_TWO + b"".join(EIGHT_TWOS) + STOP
+    backward = TWO_BY_TWO + b"".join(reversed(EIGHT_TWOS)) + STOP
+    yield judge_case(forward, together([]), "secure")
+    yield judge_case(forward, placed(), "refused 17 0")
+    for pair in range(8):
+        yield judge_case(forward, together([pair]), f"refused 17 {pair}")
+        yield judge_case(backward, together([pair]), f"refused 17 {7 - pair}")
+        for more in range(pair + 1, 8):
+            yield judge_case(forward, together([pair, more]), f"refused 17 {pair}")
+            yield judge_case(backward, together([pair, more]), f"refused 17 {7 - more}")
+    # Two pairs with a datum in common, between other commands.
+    text = (datum() * 2 + apart(1, 0) + cloud() * 2 + datum() + service() + pin(3, 1)
+            + apart(1, 2) + writes(3, 0) + cloud() + STOP)
+    for placement, expected in (
+            (placed(1, 0, 2, 1), "secure"),
+            (placed(1, 0, 0, 1), "refused 17 1"), (placed(2, 0, 0, 1), "refused 17 1"),
+            (placed(2, 2, 0, 1), "refused 17 0"), (placed(2, 2, 2, 1), "refused 17 0"),
+            (placed(2, 1, 0, 1), "refused 17 0"),          # by a copy of 0
+            (placed(2, 1, 1, 1), "refused 17 0"), (placed(2, 2, 2, 0), "refused 13 3")):
+        yield judge_case(text, placement, expected)
+
+
+def judge_apart_before_and_after():
+    """13, 14 and 15 come before 17, each as a whole."""
+    for placement, expected in (
+            (placed(1, 2, 1, 2), "secure"), (placed(2, 1, 2, 1), "secure"),
+            (placed(1, 1, 1, 1), "refused 17 0"), (placed(1, 1, 2, 2), "refused 17 0"),
+            (placed(1, 2, 2, 2), "refused 17 0"),          # by the copy of the read
+            (placed(1, 2, 1, 1), "refused 17 0"),          # by that of the write
+            (placed(1, 2, 2, 1), "refused 17 0"),
+            (placed(1, 1, 0, 1), "refused 14 0"), (placed(1, 1, 1, 0), "refused 15 1"),
+            (placed(1, 1, 0, 0), "refused 14 0"), (placed(1, 2, 0, 2), "refused 14 0"),
+            (placed(1, 2, 1, 0), "refused 15 1"), (placed(1, 2, 2, 0), "refused 15 1"),
+            (placed(1, 2, 0, 0), "refused 14 0"),          # both copies on cloud 0
+            (placed(0, 0, 1, 1), "refused 13 0"), (placed(1, 0, 0, 0), "refused 13 1"),
+            (placed(1, 1, 3, 1), "refused 13 2"), (placed(1, 1, 1, 1, 1), "refused 13 4"),
+            (placed(1, 1, 1, 0, 0, 0, 0, 0, 0, 0, 0, 0, 0, 0, 0, 2), "refused 13 15")):
+        yield judge_case(GUARDED, placement, expected)
+    # Pinned together, and pinned apart.
+    for pins, placement, expected in (
+            (pin(0, 1) + pin(1, 1), placed(1, 1), "refused 17 0"),
+            (pin(0, 1) + pin(1, 1), placed(1, 2), "refused 13 1"),
+            (pin(0, 1) + pin(1, 2), placed(1, 2), "secure"),
+            (pin(0, 1) + pin(1, 2), placed(1, 2, 2), "refused 17 0"),
+            (pin(0, 1) + pin(1, 2), placed(1, 1), "refused 13 1"),
+            (pin(2, 2), placed(0, 1, 2), "secure"), (pin(2, 2), placed(0, 2, 2), "refused 17 0"),
+            (pin(2, 2), placed(0, 0, 1), "refused 13 2")):
+        yield judge_case(meeting(reads(2, 0) + pins), placement, expected)
+    yield judge_case(LONGEST_APART, placed(*(block % 8 for block in range(16))), "refused 17 0")
+
+
 def random_candidate(dice, made):
     """Half of the time near the highest cloud, where most placements are secure."""
     choices = [allowed(made, b) for b in range(len(made.blocks))]
@@ -1396,9 +1693,20 @@ def judge_random(dice):
         yield judge_case(text, random_placement(dice, made))
 
 
+def judge_apart_random(dice):
+    for _ in range(70):
+        made = apart_workflow(dice)
+        text = b"".join(commands_of(dice, made))
+        found = assorted_candidates(dice, made, 3)
+        for placement in found:
+            yield judge_case(text, placement)
+        yield judge_case(text, bend(dice, made, dice.choice(found)))
+
+
 def judge_cases(dice):
     yield from judge_by_hand()
     yield from judge_random(dice)
+    yield from judge_apart_random(dice)
 
 
 # ---- The stored cases: Transfers ------------------------------------------------------
@@ -1449,12 +1757,12 @@ def transfers_by_hand():
 
 
 def transfers_to_the_full():
-    apart = bytes([0] * 8 + [1] * 8)                       # data here, services there
+    split = bytes([0] * 8 + [1] * 8)                       # data here, services there
     read_all = [(e, e % 8, 0, 1) for e in range(32)]
     mixed = [(e, e % 8, 0, 1) for e in range(24)] + [(24 + d, d, 1, 0) for d in range(8)]
     for room in (0, 1, 64, 124, 127, 128, 129, 132, 256, 1024):
-        yield given_transfers(THIRTY_TWO_EDGES + STOP, apart, room, read_all)
-        yield given_transfers(MIXED_EDGES + STOP, apart, room, mixed)
+        yield given_transfers(THIRTY_TWO_EDGES + STOP, split, room, read_all)
+        yield given_transfers(MIXED_EDGES + STOP, split, room, mixed)
     for room in (0, 1, 128, 1024):
         yield given_transfers(THIRTY_TWO_EDGES + STOP, placed(), room, [])
     # One datum apart from everything else: only its edges are listed.
@@ -1463,6 +1771,33 @@ def transfers_to_the_full():
         entries = [(8 * s + alone, alone, 1, 0) for s in range(3)] + [(24 + alone, alone, 0, 1)]
         for room in (15, 16, 17):
             yield given_transfers(MIXED_EDGES + STOP, placement, room, entries)
+
+
+def transfers_apart():
+    """Number 17 comes before 16, however little room there is; what is kept apart still moves."""
+    text = meeting(reads(2, 0) + writes(3, 1))
+    for room in (0, 1, 3, 4, 5, 7, 8, 9, 12):
+        yield refused_transfers(text, placed(0, 0, 0, 0), room, 17, 0)
+        yield refused_transfers(text, placed(0, 1, 1, 1), room, 17, 0)
+        yield refused_transfers(text, placed(0, 1, 2, 2), room, 17, 0)
+        yield refused_transfers(M_APART, placed(1, 1, 1, 1, 1), room, 17, 0)
+        yield refused_transfers(M_APART, placed(1, 1, 1, 0, 1), room, 17, 0)
+        yield given_transfers(text, placed(0, 1, 0, 1), room, [])
+        yield given_transfers(text, placed(0, 1, 2, 1), room, [(0, 0, 0, 2)])
+        yield given_transfers(text, placed(0, 1, 0, 2), room, [(1, 1, 2, 1)])
+        yield given_transfers(M_APART, placed(1, 1, 0, 0, 0), room, [(1, 2, 1, 0)])
+    for room in (0, 3, 4, 20):
+        for placement, number, place in (
+                (placed(1, 1, 0, 1), 14, 0), (placed(1, 1, 1, 0), 15, 1),
+                (placed(0, 1, 1, 1), 13, 0), (placed(1, 1, 1, 1, 1), 13, 4),
+                (placed(1, 1, 1, 1), 17, 0), (placed(1, 2, 2, 1), 17, 0)):
+            yield refused_transfers(GUARDED, placement, room, number, place)
+        yield refused_transfers(LONGEST_APART, placed(*(b % 8 for b in range(16))), room, 17, 0)
+    forward = TWO_BY_TWO + b"".join(EIGHT_TWOS) + STOP
+    for pair in range(8):
+        yield refused_transfers(forward, together([pair]), pair, 17, pair)
+        yield refused_transfers(forward, together(range(pair, 8)), pair, 17, pair)
+    yield given_transfers(forward, together([]), 3, [])
 
 
 def rooms(dice, needed):
@@ -1507,9 +1842,22 @@ def transfers_random(dice):
                 yield transfers_case(text, placement, max(room, 0))
 
 
+def transfers_apart_random(dice):
+    for _ in range(45):
+        made = apart_workflow(dice)
+        text = b"".join(commands_of(dice, made))
+        found = assorted_candidates(dice, made, 2)
+        for placement in found:
+            needed = 4 * len(moves(made, placement))
+            for room in rooms(dice, needed)[:dice.between(1, 3)]:
+                yield transfers_case(text, placement, room)
+
+
 def transfers_cases(dice):
     yield from transfers_by_hand()
+    yield from transfers_apart()
     yield from transfers_random(dice)
+    yield from transfers_apart_random(dice)
 
 
 # ---- The stored cases: descriptions for Census and Draw -------------------------------
@@ -1542,7 +1890,7 @@ def pipe(what=datum(0, 10, 1), order="wdr", edges="wr"):
     return b"".join(blocks[each] for each in order) + b"".join(links[each] for each in edges)
 
 
-APART = pin(0, 0) + pin(2, 1)                              # a pipe's writer on 0, its reader on 1
+ACROSS = pin(0, 0) + pin(2, 1)                             # a pipe's writer on 0, its reader on 1
 # A writer on cloud 0, its datum and two readers.
 FORK = (service() + datum(0, 10, 1) + service() * 2 + writes(0, 1) + reads(2, 1) + reads(3, 1)
         + pin(0, 0))
@@ -1575,82 +1923,116 @@ def known_row(price, clouds, *amounts):
 
 
 KNOWN = [Known(begin + STOP, counts, found) for begin, counts, found in (
-    (M[:-1], (16, 8, 0, 8, 6),
+    (M[:-1], (16, 8, 0, 0, 8, 6),
      "2820 11111 1320 0 1500, 2840 11110 1320 20 1500, 2920 11000 1320 100 1500, "
      "2940 11001 1320 120 1500, 3020 11011 1320 200 1500, 3040 11010 1320 220 1500"),
-    (SECOND[:-1], (16, 8, 4, 4, 3),
+    (SECOND[:-1], (16, 8, 4, 0, 4, 3),
      "6300 1111110011 3900 50 2350, 6600 1111111011 3900 100 2600, "
      "6800 1111111111 4200 0 2600"),
     # The cheaper home stands for the option; of two that cost the same, the earlier bytes.
-    (stores(1, 2) + pipe(), (8, 0, 0, 8, 6), "1 000, 1 001, 1 100, 1 101, 2 010, 2 111"),
-    (stores(2, 1) + pipe(), (8, 0, 0, 8, 6), "1 010, 1 011, 1 110, 1 111, 2 000, 2 101"),
-    (stores(1, 1) + pipe(), (8, 0, 0, 8, 6), "1 000, 1 001, 1 010, 1 100, 1 101, 1 111"),
-    (stores(1, 2) + pipe(datum(0, 10, 0)), (8, 0, 0, 8, 6),
+    (stores(1, 2) + pipe(), (8, 0, 0, 0, 8, 6), "1 000, 1 001, 1 100, 1 101, 2 010, 2 111"),
+    (stores(2, 1) + pipe(), (8, 0, 0, 0, 8, 6), "1 010, 1 011, 1 110, 1 111, 2 000, 2 101"),
+    (stores(1, 1) + pipe(), (8, 0, 0, 0, 8, 6), "1 000, 1 001, 1 010, 1 100, 1 101, 1 111"),
+    (stores(1, 2) + pipe(datum(0, 10, 0)), (8, 0, 0, 0, 8, 6),
      "0 000, 0 001, 0 010, 0 100, 0 101, 0 111"),
-    (stores(2, 1) + pipe(datum(0, 0, 9)), (8, 0, 0, 8, 6),
+    (stores(2, 1) + pipe(datum(0, 0, 9)), (8, 0, 0, 0, 8, 6),
      "0 000, 0 001, 0 010, 0 100, 0 101, 0 111"),
-    (stores(0, 0) + pipe(datum(0, 10, 9)), (8, 0, 0, 8, 6),
+    (stores(0, 0) + pipe(datum(0, 10, 9)), (8, 0, 0, 0, 8, 6),
      "0 000, 0 001, 0 010, 0 100, 0 101, 0 111"),
-    (stores(1, 2) + pipe() + APART, (2, 0, 0, 2, 1), "1 001"),
-    (stores(2, 1) + pipe() + APART, (2, 0, 0, 2, 1), "1 011"),
-    (stores(1, 1) + pipe() + APART, (2, 0, 0, 2, 1), "1 001"),
-    (stores(1, 1, 1) + pipe() + pin(0, 2) + pin(2, 1), (3, 0, 0, 3, 2), "1 201, 1 211"),
-    (stores(1, 2, 1) + pipe() + pin(0, 2) + pin(2, 1), (3, 0, 0, 3, 2), "1 201, 1 221"),
-    (stores(3, 1, 1) + pipe() + pin(0, 1) + pin(2, 2), (3, 0, 0, 3, 2), "1 112, 3 102"),
+    (stores(1, 2) + pipe() + ACROSS, (2, 0, 0, 0, 2, 1), "1 001"),
+    (stores(2, 1) + pipe() + ACROSS, (2, 0, 0, 0, 2, 1), "1 011"),
+    (stores(1, 1) + pipe() + ACROSS, (2, 0, 0, 0, 2, 1), "1 001"),
+    (stores(1, 1, 1) + pipe() + pin(0, 2) + pin(2, 1), (3, 0, 0, 0, 3, 2), "1 201, 1 211"),
+    (stores(1, 2, 1) + pipe() + pin(0, 2) + pin(2, 1), (3, 0, 0, 0, 3, 2), "1 201, 1 221"),
+    (stores(3, 1, 1) + pipe() + pin(0, 1) + pin(2, 2), (3, 0, 0, 0, 3, 2), "1 112, 3 102"),
     # A home that a pin forbids stands for nothing, however cheap it is.
-    (stores(1, 2) + pipe() + pin(1, 1), (4, 0, 0, 4, 4), "2 010, 2 011, 2 110, 2 111"),
-    (stores(1, 2) + pipe() + APART + pin(1, 1), (1, 0, 0, 1, 1), "2 011"),
-    (stores(2, 1) + pipe() + APART + pin(1, 0), (1, 0, 0, 1, 1), "2 001"),
+    (stores(1, 2) + pipe() + pin(1, 1), (4, 0, 0, 0, 4, 4), "2 010, 2 011, 2 110, 2 111"),
+    (stores(1, 2) + pipe() + ACROSS + pin(1, 1), (1, 0, 0, 0, 1, 1), "2 011"),
+    (stores(2, 1) + pipe() + ACROSS + pin(1, 0), (1, 0, 0, 0, 1, 1), "2 001"),
     # Two readers: each has a copy of its own, so nothing merges.
-    (ONE_WAY + FORK + pin(2, 1) + pin(3, 1), (2, 0, 0, 2, 2), "9 0111 2 7 0, 15 0011 1 14 0"),
-    (ONE_WAY + FORK + pin(2, 0) + pin(3, 1), (2, 0, 0, 2, 2), "8 0001 1 7 0, 9 0101 2 7 0"),
-    (stores(1, 1, 1) + FORK + pin(2, 1) + pin(3, 2), (3, 0, 0, 3, 3), "1 0012, 1 0112, 1 0212"),
+    (ONE_WAY + FORK + pin(2, 1) + pin(3, 1), (2, 0, 0, 0, 2, 2), "9 0111 2 7 0, 15 0011 1 14 0"),
+    (ONE_WAY + FORK + pin(2, 0) + pin(3, 1), (2, 0, 0, 0, 2, 2), "8 0001 1 7 0, 9 0101 2 7 0"),
+    (stores(1, 1, 1) + FORK + pin(2, 1) + pin(3, 2), (3, 0, 0, 0, 3, 3), "1 0012, 1 0112, 1 0212"),
     # Where the writer is the reader, or one of the two is missing, nothing merges either.
-    (stores(1, 1) + service() + datum(0, 10, 1) + writes(0, 1) + reads(0, 1), (4, 0, 0, 4, 4),
+    (stores(1, 1) + service() + datum(0, 10, 1) + writes(0, 1) + reads(0, 1), (4, 0, 0, 0, 4, 4),
      "1 00, 1 01, 1 10, 1 11"),
-    (stores(1, 1) + service() + datum(0, 10, 1) + writes(0, 1), (4, 0, 0, 4, 4),
+    (stores(1, 1) + service() + datum(0, 10, 1) + writes(0, 1), (4, 0, 0, 0, 4, 4),
      "1 00, 1 01, 1 10, 1 11"),
-    (stores(1, 1) + service() + datum(0, 10, 1) + reads(0, 1), (4, 0, 0, 4, 4),
+    (stores(1, 1) + service() + datum(0, 10, 1) + reads(0, 1), (4, 0, 0, 0, 4, 4),
      "1 00, 1 01, 1 10, 1 11"),
     # Levels: what lies too low for a copy; both rules broken counts under 16.
-    (cloud(0, 1) + cloud(1, 2) + pipe(datum(1, 10, 1)), (4, 2, 1, 1, 1), "2 111"),
-    (HIGH_DATUM + writes(1, 0), (2, 0, 1, 1, 1), "0 11"),
-    (HIGH_DATUM + reads(1, 0), (2, 1, 0, 1, 1), "0 11"),
-    (HIGH_DATUM + writes(1, 0) + reads(1, 0), (2, 1, 0, 1, 1), "0 11"),
-    (HIGH_DATUM + datum(1) + reads(1, 0) + writes(1, 2), (2, 1, 0, 1, 1), "0 111"),
+    (cloud(0, 1) + cloud(1, 2) + pipe(datum(1, 10, 1)), (4, 2, 1, 0, 1, 1), "2 111"),
+    (HIGH_DATUM + writes(1, 0), (2, 0, 1, 0, 1, 1), "0 11"),
+    (HIGH_DATUM + reads(1, 0), (2, 1, 0, 0, 1, 1), "0 11"),
+    (HIGH_DATUM + writes(1, 0) + reads(1, 0), (2, 1, 0, 0, 1, 1), "0 11"),
+    (HIGH_DATUM + datum(1) + reads(1, 0) + writes(1, 2), (2, 1, 0, 0, 1, 1), "0 111"),
     # Nothing to list: candidates that are all insecure, or no candidates.
-    (HIGH_DATUM + reads(1, 0) + pin(1, 0), (1, 1, 0, 0, 0), ""),
-    (HIGH_DATUM + writes(1, 0) + pin(1, 0), (1, 0, 1, 0, 0), ""),
-    (cloud(0) + datum(1), (0, 0, 0, 0, 0), ""),
-    (HIGH_DATUM + pin(0, 0), (0, 0, 0, 0, 0), ""),
-    (cloud(14) * 8 + service() * 15 + service(15, 15), (0, 0, 0, 0, 0), ""),
+    (HIGH_DATUM + reads(1, 0) + pin(1, 0), (1, 1, 0, 0, 0, 0), ""),
+    (HIGH_DATUM + writes(1, 0) + pin(1, 0), (1, 0, 1, 0, 0, 0), ""),
+    (cloud(0) + datum(1), (0, 0, 0, 0, 0, 0), ""),
+    (HIGH_DATUM + pin(0, 0), (0, 0, 0, 0, 0, 0), ""),
+    (cloud(14) * 8 + service() * 15 + service(15, 15), (0, 0, 0, 0, 0, 0), ""),
     # The least and the most.
-    (cloud() + datum(), (1, 0, 0, 1, 1), "0 0"),
-    (cloud(0, 1) + datum(0, 11, 1), (1, 0, 0, 1, 1), "2 0"),
-    (cloud(cpu=65535) + service(units=0xFFFFFFFF) * 16, (1, 0, 0, 1, 1),
+    (cloud() + datum(), (1, 0, 0, 0, 1, 1), "0 0"),
+    (cloud(0, 1) + datum(0, 11, 1), (1, 0, 0, 0, 1, 1), "2 0"),
+    (cloud(cpu=65535) + service(units=0xFFFFFFFF) * 16, (1, 0, 0, 0, 1, 1),
      "4503530906845200 0000000000000000 0 0 4503530906845200"),
-    (GRID, (64, 0, 0, 64, 64), ", ".join(f"0 {a}{b}" for a in range(8) for b in range(8))),
-    (POWERS, (64, 0, 0, 64, 64),
+    (GRID, (64, 0, 0, 0, 64, 64), ", ".join(f"0 {a}{b}" for a in range(8) for b in range(8))),
+    (POWERS, (64, 0, 0, 0, 64, 64),
      ", ".join(f"{n} {format(n, '06b')[::-1]} 0 0 {n}" for n in range(64))),
     # Every rate another, so that an amount tells which rates it is made of.
-    (PRICED, (4, 0, 0, 4, 4), "47 00 12 0 35, 101 10 66 0 35, 107 01 12 0 95, 161 11 66 0 95"),
-    (PRICED + reads(1, 0), (4, 0, 0, 4, 4),
+    (PRICED, (4, 0, 0, 0, 4, 4), "47 00 12 0 35, 101 10 66 0 35, 107 01 12 0 95, 161 11 66 0 95"),
+    (PRICED + reads(1, 0), (4, 0, 0, 0, 4, 4),
      "47 00 12 0 35, 141 10 66 40 35, 143 01 12 36 95, 161 11 66 0 95"),
-    (PRICED + writes(1, 0), (4, 0, 0, 4, 4),
+    (PRICED + writes(1, 0), (4, 0, 0, 0, 4, 4),
      "47 00 12 0 35, 137 10 66 36 35, 147 01 12 40 95, 161 11 66 0 95"),
-    (PRICED + writes(1, 0) + reads(1, 0), (4, 0, 0, 4, 4),
+    (PRICED + writes(1, 0) + reads(1, 0), (4, 0, 0, 0, 4, 4),
      "47 00 12 0 35, 161 11 66 0 95, 177 10 66 76 35, 183 01 12 76 95"),
     # Rows of one cost with other amounts, and transfers that are all there is to pay.
     (cloud(0, 1, cpu=2) + cloud(0, 2, cpu=1) + datum(0, 10, 1) + service(units=1),
-     (4, 0, 0, 4, 4), "2 01 1 0 1, 3 00 1 0 2, 3 11 2 0 1, 4 10 2 0 2"),
+     (4, 0, 0, 0, 4, 4), "2 01 1 0 1, 3 00 1 0 2, 3 11 2 0 1, 4 10 2 0 2"),
     (cloud(0, 0, 1, 2) + cloud(0, 0, 3, 4) + datum(0, 10, 9) + service() + reads(1, 0),
-     (4, 0, 0, 4, 4), "0 00, 0 11, 5 01 0 5 0, 5 10 0 5 0"),
+     (4, 0, 0, 0, 4, 4), "0 00, 0 11, 5 01 0 5 0, 5 10 0 5 0"),
     # The highest amounts: of storage, and of transfers beside the other two.
-    (cloud(0, 65535) + datum(0, 65535, 65535) * 16, (1, 0, 0, 1, 1),
+    (cloud(0, 65535) + datum(0, 65535, 65535) * 16, (1, 0, 0, 0, 1, 1),
      "450373705898400 0000000000000000"),
     (DEAREST * 2 + datum(0, 65535, 65535) * 8 + service(units=0xFFFFFFFF) * 8 + ALL_READ
-     + b"".join(pin(block, block // 8) for block in range(16)), (1, 0, 0, 1, 1),
+     + b"".join(pin(block, block // 8) for block in range(16)), (1, 0, 0, 0, 1, 1),
      "2476979795420760 0000000011111111 225186852949200 27489048960 2251765453422600"),
+    # Two files apart: M's first and last, and two that one service has to do with; in the second
+    # example two of which one is always copied to where the other is.
+    (M[:-1] + apart(0, 4), (16, 8, 0, 6, 2, 1), "2920 11000 1320 100 1500"),
+    (M[:-1] + apart(4, 0), (16, 8, 0, 6, 2, 1), "2920 11000 1320 100 1500"),
+    (M[:-1] + apart(0, 2), (16, 8, 0, 8, 0, 0), ""),
+    (M[:-1] + apart(4, 2), (16, 8, 0, 8, 0, 0), ""),
+    (SECOND[:-1] + apart(1, 7), (16, 8, 4, 4, 0, 0), ""),
+    # Side by side: two data, two twos, and three on two clouds and on three.
+    (stores(1, 2) + datum(0, 10, 1) * 2 + apart(0, 1), (4, 0, 0, 2, 2, 2), "3 01, 3 10"),
+    (stores(1, 2) + datum(0, 10, 1) * 4 + apart(0, 1) + apart(3, 2), (16, 0, 0, 12, 4, 4),
+     "6 0101, 6 0110, 6 1001, 6 1010"),
+    (stores(1, 2) + datum() * 3 + apart(0, 1) + apart(1, 2) + apart(2, 0), (8, 0, 0, 8, 0, 0), ""),
+    (stores(1, 2, 4) + datum(0, 10, 1) * 3 + apart(0, 1) + apart(1, 2) + apart(2, 0),
+     (27, 0, 0, 21, 6, 6), "7 012, 7 021, 7 102, 7 120, 7 201, 7 210"),
+    (stores(1, 2) + datum(0, 10, 1) * 2 + apart(0, 1) + pin(0, 1), (2, 0, 0, 1, 1, 1), "3 10"),
+    (stores(1, 2) + datum(0, 10, 1) * 2 + pin(0, 1) + pin(1, 1) + apart(0, 1),
+     (1, 0, 0, 1, 0, 0), ""),
+    # By a copy, of a read or of a write; and by two copies.
+    (stores(1, 2, 4) + datum(0, 10, 1) * 2 + service() + reads(2, 0) + apart(0, 1),
+     (27, 0, 0, 15, 12, 12), "3 010, 3 012, 3 101, 3 102, 5 020, 5 021, 5 201, 5 202, "
+                             "6 120, 6 121, 6 210, 6 212"),
+    (stores(1, 2, 4) + datum(0, 10, 1) * 2 + service() + apart(1, 0) + writes(2, 0),
+     (27, 0, 0, 15, 12, 12), "3 010, 3 012, 3 101, 3 102, 5 020, 5 021, 5 201, 5 202, "
+                             "6 120, 6 121, 6 210, 6 212"),
+    (meeting(reads(2, 0) + writes(3, 1) + pin(0, 0) + pin(1, 1))[:-1], (9, 0, 0, 6, 3, 3),
+     "0 0101, 0 0102, 0 0121"),
+    # All four kinds of candidates.
+    (GUARDED[:-1], (36, 12, 8, 14, 2, 2), "0 1212, 0 2121"),
+    # A pipe, and a datum that may not meet its own: an option is kept or broken as a whole.
+    (stores(1, 2) + pipe() + datum() + apart(1, 3), (16, 0, 0, 14, 2, 2), "1 0001, 2 1110"),
+    (stores(1, 2, 4) + pipe() + datum(0, 10, 1) + ACROSS + apart(1, 3), (9, 0, 0, 7, 2, 1),
+     "5 0012"),
+    (stores(2, 1, 4) + pipe() + datum(0, 10, 1) + ACROSS + apart(3, 1), (9, 0, 0, 7, 2, 1),
+     "5 0112"),
 )]
 
 
@@ -1699,14 +2081,15 @@ def forks():
             yield clouds + FORK + pins + STOP
 
 
-# As many candidates as are allowed.  These take their time, so there are only three: all rows
-# and all free; with a pipe, on eight clouds; with few that are secure.
+# As many candidates as are allowed.  These take their time, so there are only four: all rows
+# and all free; with a pipe, on eight clouds; with few that are secure; with eight pairs.
 LARGE_FREE = cloud() * 2 + datum() * 16 + STOP
 LARGE_PIPE = (b"".join(cloud(k // 6, k % 3, k % 2, k // 4, 7 - k) for k in range(8)) + pipe()
               + datum(0, 10, 1) + service(0, 0, 3) + datum(1) + reads(4, 3) + STOP)
 LARGE_SPLIT = (b"".join(cloud(k // 2, 4 - k, k, 1, k % 2) for k in range(4))
                + service(0, 1, 1) * 6 + datum(1, 10, 1) * 4 + writes(0, 6) + reads(1, 6)
                + writes(2, 7) + reads(3, 7) + reads(4, 8) + writes(5, 9) + STOP)
+LARGE_APART = TWO_BY_TWO + b"".join(EIGHT_TWOS) + STOP
 
 
 def pinned_but(free, clouds):
@@ -1728,6 +2111,47 @@ def crowded():
     for edges in (ALL_READ, SOME_WRITE):
         for free in ((0, 1, 8, 9), (0, 7, 14, 15), (3, 11, 12, 15)):
             yield clouds + blocks + edges + pinned_but(free, 2) + STOP
+
+
+def pipes_apart():
+    """Pipes, and data that may not meet theirs: a third datum, or that of a second pipe."""
+    for order in map("".join, itertools.permutations("wdr")):
+        for clouds in (stores(1, 2), stores(3, 1, 2), stores(1, 1, 1, 1)):
+            text = clouds + pipe(datum(0, 11, 2), order) + datum(0, 10, 1)
+            yield text + apart(order.index("d"), 3) + STOP
+    row = service() * 3 + datum(0, 10, 1) + datum(0, 20, 0) + datum(0, 10, 2)
+    edges = writes(0, 3) + reads(1, 3) + writes(1, 4) + reads(2, 4)
+    two = (pipe() + service() + datum(0, 20, 1) + service() + writes(3, 4) + reads(5, 4)
+           + apart(1, 4))
+    for clouds in (stores(1, 2), stores(2, 1, 1)):
+        for pairs in (apart(3, 5), apart(5, 4), apart(3, 5) + apart(4, 5), apart(3, 4)):
+            yield clouds + row + edges + pairs + STOP
+        yield clouds + two + STOP
+
+
+def guarded_apart():
+    """Two data apart that not every cloud is good enough for: all three rules have their part."""
+    for levels in ((0, 1, 1), (1, 0, 1), (1, 1, 0, 1)):
+        clouds = b"".join(cloud(height, k, 1, k % 2, 1) for k, height in enumerate(levels))
+        blocks = datum(1, 10, 1) * 2 + service(0, 1, 1) * 2
+        for edges in (reads(2, 0) + writes(3, 1), writes(3, 0) + reads(2, 1),
+                      reads(2, 0) + writes(2, 0) + writes(3, 1),
+                      reads(2, 0) + reads(3, 0) + writes(3, 1)):
+            yield clouds + blocks + edges + apart(1, 0) + STOP
+        # Datum 1 may stand anywhere, and only its copies are a matter of the pair.
+        yield (clouds + datum(1, 10, 1) + datum(0, 10, 2) + service(0, 1, 1) * 2 + reads(2, 0)
+               + writes(3, 0) + apart(0, 1) + STOP)
+
+
+def crowded_apart():
+    """Sixteen blocks and eight pairs in a circle, with three blocks that are not pinned."""
+    blocks = datum(0, 10, 1) * 8 + service(0, 0, 1) * 8
+    pairs = b"".join(apart(d, (d + 1) % 8) for d in range(8))
+    for edges in (b"".join(reads(8 + d, d) for d in range(8)),
+                  b"".join(writes(8 + d, d) for d in range(8))):
+        for free in ((0, 8, 3), (7, 0, 1), (8, 9, 15)):
+            yield (b"".join(cloud(0, k % 3, 1, k % 2, 8 - k) for k in range(8)) + blocks + pairs
+                   + edges + pinned_but(free, 8) + STOP)
 
 
 RATES = ((0,), (1,), (0, 1), (1, 2), (1, 2, 3), (0, 10, 11), (0, 1, 65535), (65534, 65535))
@@ -1785,6 +2209,19 @@ def pin_until(dice, made, most):
         made.pins[block] = dice.choice(allowed(made, block))
 
 
+def apart_flows(dice, most):
+    """Such a workflow with a pair at least."""
+    made = random_flows(dice, most)
+    while not made.apart:
+        made = random_flows(dice, most)
+        add_random_pairs(dice, made)
+    return made
+
+
+def apart_text(dice, most):
+    return b"".join(commands_of(dice, apart_flows(dice, most)))
+
+
 def flow_text(dice, most):
     return b"".join(commands_of(dice, random_flows(dice, most)))
 
@@ -1820,11 +2257,11 @@ def census_by_hand():
         yield census_case(text, f"refused {number} {place}")
     for known in KNOWN:
         yield census_case(known.text, census_line(known.counts))
-    yield census_case(LARGE_FREE, census_line((65536, 0, 0, 65536, 65536)))
+    yield census_case(LARGE_FREE, census_line((65536, 0, 0, 0, 65536, 65536)))
     # A pipe on k clouds: of k k k placements, k (k - 1) pairs are the same option.
     for clouds, options in ((1, 1), (2, 6), (3, 21), (4, 52), (8, 456)):
         text = stores(*range(clouds)) + pipe() + STOP
-        yield census_case(text, census_line((clouds ** 3, 0, 0, clouds ** 3, options)))
+        yield census_case(text, census_line((clouds ** 3, 0, 0, 0, clouds ** 3, options)))
     for text in (LARGE_PIPE, LARGE_SPLIT, HEAVY, FIRST_AND_LAST, LONGEST, STEPS + STOP,
                  b"".join(MIXED_COMMANDS), *crowded(), *pipes(), *pipes_with_prices(),
                  *pipes_with_levels(), *two_pipes(), *forks()):
@@ -1832,6 +2269,37 @@ def census_by_hand():
     for block in range(5):                                 # M with one block pinned
         for to in (0, 1):
             yield census_case(M[:-1] + pin(block, to) + STOP)
+
+
+def census_apart():
+    yield census_case(LARGE_APART, census_line((65536, 0, 0, 65280, 256, 256)))
+    yield census_case(LONGEST_APART, census_line((1, 0, 0, 1, 0, 0)))
+    # Of k data on k clouds, each apart from each: k factorial placements are left.
+    for count in (2, 3, 4):
+        pairs = b"".join(apart(*pair) for pair in itertools.combinations(range(count), 2))
+        every, kept = count ** count, math.factorial(count)
+        yield census_case(cloud() * count + datum() * count + pairs + STOP,
+                          census_line((every, 0, 0, every - kept, kept, kept)))
+    # A pipe on three clouds and a datum apart from the pipe's: 24 placements, 18 options.
+    yield census_case(stores(1, 2, 3) + pipe() + datum() + apart(1, 3) + STOP,
+                      census_line((81, 0, 0, 57, 24, 18)))
+    for text in (EIGHT_PAIRS + STOP, b"".join(APART_COMMANDS), *pipes_apart(), *guarded_apart(),
+                 *crowded_apart()):
+        yield census_case(text)
+    for one, other in itertools.combinations((0, 2, 4), 2):
+        for block in range(5):                             # M with a pair and a pin
+            for to in (0, 1):
+                yield census_case(M[:-1] + pin(block, to) + apart(one, other) + STOP)
+
+
+def census_apart_random(dice):
+    for most in (8, 30, 100, 300, 900):
+        for _ in range(30):
+            yield census_case(apart_text(dice, most))
+    for _ in range(60):
+        made = apart_workflow(dice)
+        if count_candidates(made) <= QUICK:
+            yield census_case(b"".join(commands_of(dice, made)))
 
 
 def census_random(dice):
@@ -1844,7 +2312,9 @@ def census_random(dice):
 
 def census_cases(dice):
     yield from census_by_hand()
+    yield from census_apart()
     yield from census_random(dice)
+    yield from census_apart_random(dice)
 
 
 # ---- The stored cases: Draw -----------------------------------------------------------
@@ -1957,7 +2427,7 @@ def draw_large():
         later = Row(0, binary(number + 1), Amounts(0, 0, 0)) if number < 65535 else None
         yield draw_case(LARGE_FREE, cursor, row_line(later))
         yield draw_case(LARGE_FREE, (0, replaced(binary(number), 15, 2)))
-    for text in (LARGE_FREE, LARGE_PIPE, LARGE_SPLIT):
+    for text in (LARGE_FREE, LARGE_PIPE, LARGE_SPLIT, LARGE_APART):
         found = rows(text)
         yield draw_case(text, None, row_line(found[0]))
         yield draw_case(text, found[-1].cursor(), "finished")
@@ -2003,6 +2473,27 @@ def draw_merges(dice):
         yield from draw_at_random(dice, text, 4)
 
 
+def draw_apart(dice):
+    """Where pairs take rows away: from the start, from rows that are left and that went."""
+    for text in (*pipes_apart(), *guarded_apart(), *crowded_apart(), EIGHT_PAIRS + STOP,
+                 b"".join(APART_COMMANDS), LONGEST_APART):
+        if len(rows(text)) <= dice.choice((8, 8, 30)):
+            yield from chain(text, rows(text))
+        else:
+            yield draw_case(text, None)
+            yield from draw_at_random(dice, text, 4)
+    for row in rows(M):
+        at = row.cursor()
+        for cursor in (*same_cost(at), *cost_off(at)):
+            yield draw_case(M_APART, cursor)
+    for number in range(40):
+        text = apart_text(dice, dice.choice((8, 24, 24, 64, 64, 200, 600)))
+        if number % 4 == 0 and len(rows(text)) <= 20:
+            yield from chain(text, rows(text))
+        yield draw_case(text, None)
+        yield from draw_at_random(dice, text, 5)
+
+
 def draw_random(dice):
     for number in range(80):
         text = flow_text(dice, dice.choice((8, 24, 24, 64, 64, 200, 600)))
@@ -2030,6 +2521,7 @@ def draw_cases(dice):
     yield from draw_large()
     yield from draw_merges(dice)
     yield from draw_random(dice)
+    yield from draw_apart(dice)
 
 
 # ---- The stored cases: all of them ----------------------------------------------------
@@ -2039,8 +2531,8 @@ def draw_cases(dice):
 GROUPS = {"R": read_cases, "J": judge_cases, "T": transfers_cases, "C": census_cases,
           "D": draw_cases}
 
-NUMBERS_DUE = {"R": range(1, 13), "J": range(1, 16), "T": range(1, 17), "C": range(1, 13),
-               "D": range(1, 13)}
+NUMBERS_DUE = {"R": range(1, 13), "J": (*range(1, 16), 17), "T": range(1, 18),
+               "C": range(1, 13), "D": range(1, 13)}
 
 
 def stored_cases(letters):
@@ -2112,7 +2604,7 @@ def check_interview():
                            "2920 11000 1320 100 1500", "2940 11001 1320 120 1500",
                            "3020 11011 1320 200 1500", "3040 11010 1320 220 1500",
                            "options 6"], "interview 1: the rows of M")
-    require(census(M) == (16, 8, 0, 8, 6), "interview 2: the census of M")
+    require(census(M) == (16, 8, 0, 0, 8, 6), "interview 2: the census of M")
     option = option_of(read(M))
     require(option(place("11000")) == option(place("11100")),
             "interview 3: 11000 and 11100 are one option")
@@ -2129,6 +2621,13 @@ def check_interview():
     text = cloud() * 3 + datum() * 11 + STOP
     require(count_candidates(decode(text)) == 177147 and refusal_of(read, text) == (12, 0),
             "interview 11: too many candidates")
+
+
+def check_apart():
+    """M with its first and last file apart."""
+    require(listing(M_APART) == ["2920 11000 1320 100 1500", "options 1"], "apart: the rows")
+    require(census(M_APART) == (16, 8, 0, 6, 2, 1), "apart: the census")
+    require(refusal_of(judge, M_APART, placed(1, 1, 1, 1, 1)) == (17, 0), "apart: 11111")
 
 
 def check_bad_cases():
@@ -2154,7 +2653,7 @@ def check_bad_cases():
 def check_examples():
     """The stored examples: their bytes, the listing that shows these, and their rows."""
     examples = ROOT / "examples"
-    for name, text in (("interview", M), ("second", SECOND)):
+    for name, text in (("interview", M), ("second", SECOND), ("apart", M_APART)):
         require(stored_bytes(examples / f"{name}.bin") == text, f"examples/{name}.bin differs")
         require(shown_bytes(examples / f"{name}.txt") == text,
                 f"examples/{name}.txt does not show the bytes of {name}.bin")
@@ -2206,10 +2705,10 @@ def check_agreement(text):
     verdicts = Counter(verdict(described, placement) for placement in candidates(described))
     require(counts.candidates == count_candidates(described) == verdicts.total(),
             f"candidates: {text.hex()}")
-    require((counts.breaking_16, counts.breaking_17_only, counts.secure)
-            == (verdicts[14], verdicts[15], verdicts[None]), f"census and judge: {text.hex()}")
-    require(counts.candidates == counts.breaking_16 + counts.breaking_17_only + counts.secure,
-            f"the census does not add up: {text.hex()}")
+    require((counts.breaking_16, counts.breaking_17_only, counts.apart_only, counts.secure)
+            == (verdicts[14], verdicts[15], verdicts[17], verdicts[None]),
+            f"census and judge: {text.hex()}")
+    require(counts.candidates == sum(counts[1:5]), f"the census does not add up: {text.hex()}")
     require(counts.options == len(found), f"options and rows: {text.hex()}")
     require(all(one.cursor() < other.cursor() for one, other in itertools.pairwise(found)),
             f"the rows do not rise: {text.hex()}")
@@ -2258,6 +2757,11 @@ def traits(text):
         "transfer alone": any(row.cost == row.amounts.transfer > 0 for row in found),
         "cpu alone": any(row.cost == row.amounts.cpu > 0 for row in found),
         "writes broken alone": counts.breaking_17_only > 0,
+        "pairs broken alone": counts.apart_only > 0,
+        "pairs broken by some and kept by some": counts.apart_only > 0 and counts.secure > 0,
+        "candidates of all four kinds": 0 not in counts[1:5],
+        "merged options with pairs": bool(described.apart) and counts.secure > counts.options,
+        "eight pairs": len(described.apart) == MOST_PAIRS,
         "candidates but none secure": counts.candidates > 0 and counts.secure == 0,
         "no candidates": counts.candidates == 0,
         "all candidates allowed": counts.candidates == MOST_CANDIDATES,
@@ -2290,6 +2794,7 @@ def check_numbers(letter, lines):
 
 def check(letters, directory):
     check_interview()
+    check_apart()
     check_bad_cases()
     check_examples()
     cases, lines = answered_cases(letters)

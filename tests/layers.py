@@ -14,7 +14,7 @@ CRATES = ROOT / "crates"
 DEFINED = re.compile(r"^ *unfoldable (?:pub )?([^\s:]+) *:", re.MULTILINE)
 USED = re.compile(r"^use Rattle·(\w+)(?:·\w+)?\.(?:specs|proofs)\.[^{}\n]*\.\{([^}]*)\}", re.MULTILINE)
 UNFOLDING = re.compile(r"^( *)unfolding\b(.*(?:\n\1 +\S.*)*)", re.MULTILINE)
-COMPUTED = {"Examples.antt", "Interview.antt", "Reached.antt"}
+COMPUTED = {"Apart.antt", "Examples.antt", "Interview.antt", "Reached.antt"}
 
 
 def names_used(text):

@@ -9,7 +9,7 @@ archive=target/staticlib/libpanel.a
 list=target/list
 cc -std=c11 -pedantic -Wall -Wextra -Werror -O2 -Iinclude -o "$list" examples/list.c "$archive"
 
-for name in interview second; do
+for name in interview second apart; do
     "$list" <"examples/$name.bin" | cmp - "examples/$name.expected"
 done
 printf 'refused 1 0\n' >"$list.refused"

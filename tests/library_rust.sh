@@ -24,7 +24,7 @@ build() {
 build test tests/reference --release
 build test bindings/rust
 build build bindings/rust --example list
-for name in interview second; do
+for name in interview second apart; do
     target/rust/debug/examples/list <"examples/$name.bin" | cmp - "examples/$name.expected"
 done
 test "$(printf '\000' | target/rust/debug/examples/list)" = 'refused 8 1'

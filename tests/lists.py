@@ -38,7 +38,7 @@ def stored_texts():
         letter = chr(tape.number(1))
         texts[tape.take(tape.number(2))] = None
         tape.take(OPERANDS[letter])
-    for name in ("interview", "second"):
+    for name in ("interview", "second", "apart"):
         texts[stored_bytes(ROOT / "examples" / f"{name}.bin")] = None
     return list(texts)
 

@@ -7,7 +7,7 @@ use std::{fs, io};
 use panel::{Cursor, Placement, Refusal, calls as engine};
 use reference::description::read;
 
-use crate::generate::largest;
+use crate::generate::{apart, largest};
 use crate::markdown::{header, name_of};
 use crate::plain;
 
@@ -29,7 +29,7 @@ struct Lent {
     counts: [u64; 3],
     transfers: [u8; 128],
     count: u64,
-    figures: [u64; 5],
+    figures: [u64; 6],
     answer: [u64; 5],
     row: [u8; 16],
     rows: Vec<u64>,
@@ -125,13 +125,16 @@ pub fn call_ratios() -> io::Result<()> {
     Ok(())
 }
 
-fn subjects() -> io::Result<[Subject; 3]> {
+fn subjects() -> io::Result<[Subject; 5]> {
     let interview = fs::read("examples/interview.bin")?;
     let second = fs::read("examples/second.bin")?;
+    let kept_apart = fs::read("examples/apart.bin")?;
     Ok([
         Subject::new("interview: ", interview)?,
         Subject::new("second: ", second)?,
         Subject::new("", largest())?,
+        Subject::new("apart: ", kept_apart)?,
+        Subject::new("", apart(6))?,
     ])
 }
 
@@ -155,7 +158,7 @@ impl Lent {
             counts: [0; 3],
             transfers: [0; 128],
             count: 0,
-            figures: [0; 5],
+            figures: [0; 6],
             answer: [0; 5],
             row: [0; 16],
             rows: vec![0; engine::LIST],
@@ -184,7 +187,7 @@ fn agree_on_refusals(subject: &Subject) -> io::Result<()> {
     let text = &subject.text;
     for at in 0..text.len() {
         let changed =
-            [0, 4, 7, 16, 255].map(|byte| [&text[..at], &[byte], &text[at + 1..]].concat());
+            [0, 4, 7, 9, 16, 255].map(|byte| [&text[..at], &[byte], &text[at + 1..]].concat());
         for spoilt in changed.iter().map(Vec::as_slice).chain([&text[..at]]) {
             let mut counts = [[0; 3]; 2];
             let [engine, plain] = &mut counts;

@@ -62,6 +62,10 @@ impl Text {
         self.bytes.extend([5, service as u8, datum as u8]);
     }
 
+    fn apart(&mut self, one: usize, other: usize) {
+        self.bytes.extend([7, one as u8, other as u8]);
+    }
+
     /// Some service writes each datum but the first; the other edges read, each another pair.
     fn edges(&mut self, blocks: usize, count: usize) {
         let (services, data) = (blocks.div_ceil(2), blocks / 2);
@@ -156,4 +160,27 @@ pub fn chain(blocks: usize) -> Vec<u8> {
         }
     }
     text.end()
+}
+
+/// Such a chain on four clouds, but nothing reads its first datum. That one is apart from all
+/// others, and the second from the last: eight pairs. The first two blocks are on cloud 0, those
+/// behind them on cloud 1, and the last so many are free. Of eight free blocks one placement in
+/// twenty keeps the pairs; cheaper ones break them, so that a draw has many of them to test.
+pub fn apart(free: usize) -> Vec<u8> {
+    let mut text = Text::new();
+    for _ in 0..4 {
+        text.cloud(0);
+    }
+    text.blocks(16, 0);
+    text.writes(0, 1);
+    for datum in (3..16).step_by(2) {
+        text.writes(datum - 1, datum);
+        if datum + 1 < 16 {
+            text.reads(datum + 1, datum);
+        }
+        text.apart(1, datum);
+    }
+    text.apart(3, 15);
+    let fixed = 0..16 - free as u8;
+    with_pins(&text.end(), fixed.map(|block| [block, u8::from(block > 1)]))
 }

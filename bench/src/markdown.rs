@@ -11,5 +11,10 @@ pub fn name_of(described: &Description) -> String {
     let blocks = described.blocks.len();
     let clouds = described.clouds.len();
     let edges = described.edges.len();
-    format!("{blocks} blocks on {clouds} clouds, {edges} edges")
+    let name = format!("{blocks} blocks on {clouds} clouds, {edges} edges");
+    match described.apart.len() {
+        0 => name,
+        1 => format!("{name}, 1 pair"),
+        pairs => format!("{name}, {pairs} pairs"),
+    }
 }

@@ -10,7 +10,7 @@ mod description;
 use panel::calls::ROW;
 use panel::{Placement, Refusal};
 
-use candidates::{Clouds, Sameness, packed, unpacked};
+use candidates::{Clouds, Conflicts, Sameness, packed, unpacked};
 use description::{Description, Few, Way, refuse_at};
 
 pub fn read(description: &[u8], counts: &mut [u64; 3]) -> Result<(), Refusal> {
@@ -46,16 +46,18 @@ pub fn transfers(
     Ok(())
 }
 
-pub fn census(description: &[u8], figures: &mut [u64; 5]) -> Result<(), Refusal> {
+pub fn census(description: &[u8], figures: &mut [u64; 6]) -> Result<(), Refusal> {
     let described = description::read(description)?;
-    let sameness = Sameness::of(&described);
-    let (mut breaking_16, mut breaking_17_only) = (0, 0);
+    let (sameness, conflicts) = (Sameness::of(&described), Conflicts::of(&described));
+    let (mut breaking_16, mut breaking_17_only, mut apart_only) = (0, 0, 0);
     let mut keys = Vec::new();
     for placement in described.candidates() {
         if described.first_breaking(Way::Reads, &placement).is_some() {
             breaking_16 += 1;
         } else if described.first_breaking(Way::Writes, &placement).is_some() {
             breaking_17_only += 1;
+        } else if !conflicts.are_kept(&placement) {
+            apart_only += 1;
         } else {
             keys.push(sameness.key(&placement));
         }
@@ -63,22 +65,31 @@ pub fn census(description: &[u8], figures: &mut [u64; 5]) -> Result<(), Refusal>
     let secure = keys.len() as u64;
     keys.sort_unstable();
     keys.dedup();
-    let candidates = breaking_16 + breaking_17_only + secure;
+    let candidates = breaking_16 + breaking_17_only + apart_only + secure;
     let options = keys.len() as u64;
-    *figures = [candidates, breaking_16, breaking_17_only, secure, options];
+    *figures = [
+        candidates,
+        breaking_16,
+        breaking_17_only,
+        apart_only,
+        secure,
+        options,
+    ];
     Ok(())
 }
 
 /// From the start. The cheapest secure placement is the first row, so no options are told apart.
 pub fn draw(description: &[u8], answer: &mut [u64; 5], row: &mut [u8; 16]) -> Result<(), Refusal> {
     let described = description::read(description)?;
+    let conflicts = Conflicts::of(&described);
     let mut cheapest: Option<(u64, Clouds)> = None;
     for placement in described.candidates() {
         let Some(cost) = described.cost(&placement) else {
             continue;
         };
         // They come in the order of their bytes: at equal cost the earlier one stays.
-        if cheapest.is_none_or(|(least, _)| cost < least) {
+        let is_cheaper = cheapest.is_none_or(|(least, _)| cost < least);
+        if is_cheaper && conflicts.are_kept(&placement) {
             cheapest = Some((cost, placement));
         }
     }
@@ -95,10 +106,12 @@ pub fn draw(description: &[u8], answer: &mut [u64; 5], row: &mut [u8; 16]) -> Re
 pub fn list(description: &[u8], rows: &mut [u64], extent: &mut [u64; 2]) -> Result<(), Refusal> {
     let described = description::read(description)?;
     let blocks = described.blocks.len();
-    let sameness = Sameness::of(&described);
+    let (sameness, conflicts) = (Sameness::of(&described), Conflicts::of(&described));
     let mut placements = Vec::new();
     for placement in described.candidates() {
-        if let Some(cost) = described.cost(&placement) {
+        if let Some(cost) = described.cost(&placement)
+            && conflicts.are_kept(&placement)
+        {
             let packed = packed(&placement[..blocks]);
             placements.push((sameness.key(&placement), cost, packed));
         }
@@ -118,11 +131,12 @@ pub fn list(description: &[u8], rows: &mut [u64], extent: &mut [u64; 2]) -> Resu
 }
 
 impl Description {
-    /// Refuses with 13, 14 or 15, each tested as a whole before the next.
+    /// Refuses with 13, 14, 15 or 17, each tested as a whole before the next.
     fn judge(&self, placement: &Clouds) -> Result<(), Refusal> {
         refuse_at(13, (0..16).find(|&at| !self.fits(placement[at], at)))?;
         refuse_at(14, self.first_breaking(Way::Reads, placement))?;
-        refuse_at(15, self.first_breaking(Way::Writes, placement))
+        refuse_at(15, self.first_breaking(Way::Writes, placement))?;
+        refuse_at(17, self.first_meeting(placement))
     }
 
     fn fits(&self, cloud: u8, at: usize) -> bool {

@@ -12,7 +12,7 @@ use std::time::Instant;
 
 use bench::calls::call_ratios;
 use bench::cases::{census_case, draw_case};
-use bench::generate::{chain, data, guarded, open, pinned};
+use bench::generate::{apart, chain, data, guarded, open, pinned};
 use bench::markdown::{header, name_of};
 use bench::measure::{Program, agree, least, ratios, store};
 use panel::calls::{LIST, SCRATCH, list};
@@ -114,6 +114,7 @@ fn draw_ratios(bits: usize) -> io::Result<()> {
         open(bits, 2, edges_for(bits)),
         open(on_8, 8, edges_for(on_8)),
         guarded(2 * (bits / 5), edges_for(bits / 2)),
+        apart(bits / 2),
     ] {
         let described = accepted(&text);
         let cases = store("draws", &draws(&text, SEEN_FOR_RATIOS))?;
@@ -179,10 +180,15 @@ fn list_ratios(bits: usize) -> io::Result<()> {
         "Description",
         "Candidates",
         "Rows",
-        "plain list (at most 0.5)",
+        "plain list (at most 0.5; with pairs below 1)",
     ]);
     let on_8 = bits / 3;
-    for text in [data(bits), chain(bits), open(on_8, 8, edges_for(on_8))] {
+    for text in [
+        data(bits),
+        chain(bits),
+        open(on_8, 8, edges_for(on_8)),
+        apart(bits / 2),
+    ] {
         let input = store("description", &text)?;
         agree(&[&LISTOPTIONS, &PLAIN_LIST], &input, |output| output)?;
         let [ratio] = ratios(&LISTOPTIONS, [&PLAIN_LIST], &input, 21)?;

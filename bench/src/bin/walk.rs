@@ -14,11 +14,11 @@ fn main() -> io::Result<()> {
         }
         let seen = tables.see(&Task::count());
         let [broken_16, broken_17] = [seen.breaking_16, seen.breaking_17_only];
-        let candidates = broken_16 + broken_17 + seen.secure;
-        let [secure, rows] = [seen.secure, seen.rows];
+        let [apart, secure, rows] = [seen.apart_only, seen.secure, seen.rows];
+        let candidates = broken_16 + broken_17 + apart + secure;
         writeln!(
             out,
-            "census {candidates} {broken_16} {broken_17} {secure} {rows}"
+            "census {candidates} {broken_16} {broken_17} {apart} {secure} {rows}"
         )
     })
 }

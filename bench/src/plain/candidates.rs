@@ -123,7 +123,7 @@ impl Description {
         self.edges.iter().position(breaks)
     }
 
-    /// What a candidate costs; none where it is not secure.
+    /// What a candidate costs; none where it breaks rule 16 or 17.
     pub fn cost(&self, placement: &Clouds) -> Option<u64> {
         let mut cost = 0;
         for edge in self.edges.iter() {
@@ -164,6 +164,66 @@ impl Description {
             }
         }
         [storage, transfer, cpu]
+    }
+}
+
+impl Description {
+    /// A bit for each block whose cloud holds the datum: itself, and the services that read or write
+    /// it, which have a copy where they stand elsewhere.
+    fn holders(&self, datum: u8) -> u16 {
+        let edges = self.edges.iter().filter(|e| e.datum == datum);
+        edges.fold(1 << datum, |blocks, edge| blocks | 1 << edge.service)
+    }
+
+    /// The first pair whose data some cloud holds both of.
+    pub fn first_meeting(&self, placement: &Clouds) -> Option<usize> {
+        let clouds = |datum| {
+            let holders = self.holders(datum);
+            let blocks = (0..16).filter(|block| (holders >> block) & 1 == 1);
+            blocks.fold(0u8, |clouds, block| clouds | 1 << placement[block])
+        };
+        let meets = |&[one, other]: &[u8; 2]| clouds(one) & clouds(other) != 0;
+        self.apart.iter().position(meets)
+    }
+}
+
+/// Blocks that may not share a cloud, of two the later one first: each time one whose cloud holds
+/// the one datum of a pair and one whose cloud holds the other. Most descriptions have no pairs,
+/// and do without the list.
+pub struct Conflicts(Option<Few<[u8; 2], 136>>);
+
+impl Conflicts {
+    pub fn of(described: &Description) -> Self {
+        if described.apart.is_empty() {
+            return Conflicts(None);
+        }
+        let mut foes = [0u16; 16];
+        for pair in described.apart.iter() {
+            let [one, other] = pair.map(|datum| described.holders(datum));
+            for (block, foes) in foes.iter_mut().enumerate() {
+                if (one >> block) & 1 == 1 {
+                    *foes |= other;
+                }
+                if (other >> block) & 1 == 1 {
+                    *foes |= one;
+                }
+            }
+        }
+        let mut conflicts = Few::none([0; 2]);
+        for (later, foes) in foes.iter().enumerate() {
+            for earlier in (0..=later).filter(|block| (foes >> block) & 1 == 1) {
+                conflicts.push([later as u8, earlier as u8]);
+            }
+        }
+        Conflicts(Some(conflicts))
+    }
+
+    /// All pairs are kept.
+    pub fn are_kept(&self, placement: &Clouds) -> bool {
+        let cloud = |block: u8| placement[usize::from(block)];
+        let clash = |&[one, other]: &[u8; 2]| cloud(one) == cloud(other);
+        let conflicts = self.0.as_deref().unwrap_or_default();
+        !conflicts.iter().any(clash)
     }
 }
 

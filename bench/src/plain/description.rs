@@ -78,6 +78,8 @@ pub struct Description {
     pub clouds: Few<Cloud, 8>,
     pub blocks: Few<Block, 16>,
     pub edges: Few<Edge, 32>,
+    /// Pairs of data that no cloud may hold both of.
+    pub apart: Few<[u8; 2], 8>,
 }
 
 /// What Read accepts: the description that the bytes spell, or its first refusal.
@@ -117,6 +119,7 @@ impl Description {
                 service: 0,
                 datum: 0,
             }),
+            apart: Few::none([0; 2]),
         }
     }
 
@@ -154,7 +157,8 @@ impl Description {
             [4, service, datum, ..] => self.add_edge(Way::Reads, service, datum),
             [5, service, datum, ..] => self.add_edge(Way::Writes, service, datum),
             [6, block, cloud, ..] => self.add_pin(block, cloud),
-            [] | [1..=6, ..] => Err(1),
+            [7, one, other, ..] => self.add_apart(one, other),
+            [] | [1..=7, ..] => Err(1),
             _ => Err(2),
         }
     }
@@ -226,6 +230,19 @@ impl Description {
         let pin = &mut self.blocks.things[block].pin;
         refuse_if(pin.is_some(), 7)?;
         *pin = Some(cloud);
+        Ok(3)
+    }
+
+    fn add_apart(&mut self, one: u8, other: u8) -> Result<usize, u8> {
+        self.apart.refuse_if_full()?;
+        let is_datum = |block: u8| {
+            let block = self.blocks.get(usize::from(block));
+            block.is_some_and(|b| matches!(b.kind, Kind::Datum { .. }))
+        };
+        refuse_if(!is_datum(one) || !is_datum(other), 6)?;
+        let is_there = |pair: &[u8; 2]| *pair == [one, other] || *pair == [other, one];
+        refuse_if(one == other || self.apart.iter().any(is_there), 7)?;
+        self.apart.push([one, other]);
         Ok(3)
     }
 

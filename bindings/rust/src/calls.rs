@@ -52,7 +52,7 @@ pub fn read(description: &[u8], counts: &mut [u64; 3]) -> Result<(), Refusal> {
 ///
 /// # Errors
 ///
-/// Refuses with 1 to 15.
+/// Refuses with 1 to 15, and with 17.
 pub fn judge(description: &[u8], placement: &Placement) -> Result<(), Refusal> {
     answered(ffi::judge(description, &placement.0))
 }
@@ -71,7 +71,8 @@ pub fn judge(description: &[u8], placement: &Placement) -> Result<(), Refusal> {
 ///
 /// # Errors
 ///
-/// Refuses with 1 to 15, and with 16 and the bytes needed where the buffer is shorter than that.
+/// Refuses with 1 to 15, with 17, and with 16 and the bytes needed where the buffer is shorter than
+/// that.
 pub fn transfers(
     description: &[u8],
     placement: &Placement,
@@ -81,20 +82,20 @@ pub fn transfers(
     answered(ffi::transfers(description, &placement.0, buffer, count))
 }
 
-/// Counts the candidates, those that break rule 16, those that break rule 17 and not 16, the
-/// secure ones, and the options.
+/// Counts the candidates, those that break rule 16, those that break rule 17 and not 16, those that
+/// break neither but a pair, the secure ones, and the options.
 ///
 /// ```
-/// let mut figures = [0; 5];
-/// panel::calls::census(include_bytes!("../../../examples/interview.bin"), &mut figures)?;
-/// assert_eq!(figures, [16, 8, 0, 8, 6]);
+/// let mut figures = [0; 6];
+/// panel::calls::census(include_bytes!("../../../examples/apart.bin"), &mut figures)?;
+/// assert_eq!(figures, [16, 8, 0, 6, 2, 1]);
 /// # Ok::<(), panel::Refusal>(())
 /// ```
 ///
 /// # Errors
 ///
 /// Refuses with 1 to 12.
-pub fn census(description: &[u8], figures: &mut [u64; 5]) -> Result<(), Refusal> {
+pub fn census(description: &[u8], figures: &mut [u64; 6]) -> Result<(), Refusal> {
     answered(ffi::census(description, figures))
 }
 

@@ -10,7 +10,8 @@ const TRANSFERS: usize = 128;
 /// The most candidates that a description may have, so also the most rows.
 const CANDIDATES: usize = 65_536;
 
-/// A description that was accepted: a workflow, the clouds it could run on, and its pins.
+/// A description that was accepted: a workflow, the clouds it could run on, its pins, and the pairs
+/// of data that it keeps apart.
 #[derive(Debug, Clone, PartialEq, Eq, Hash)]
 pub struct Description {
     bytes: Box<[u8]>,
@@ -86,7 +87,8 @@ impl Description {
     ///
     /// # Errors
     ///
-    /// Refuses with 13 what is no candidate, with 14 or 15 what breaks rule 16 or 17.
+    /// Refuses with 13 what is no candidate, with 14 or 15 what breaks rule 16 or 17, and with 17
+    /// what breaks a pair.
     pub fn judge(&self, placement: &Placement) -> Result<(), Refusal> {
         calls::judge(&self.bytes, placement)
     }
@@ -100,17 +102,30 @@ impl Description {
     /// let census = interview.census();
     /// assert_eq!((census.candidates, census.breaking16, census.secure), (16, 8, 8));
     /// assert_eq!(census.options, 6);
+    ///
+    /// // With its first and last file apart.
+    /// let apart = Description::read(include_bytes!("../../../examples/apart.bin"))?;
+    /// let census = apart.census();
+    /// assert_eq!((census.apart_only, census.secure, census.options), (6, 2, 1));
     /// # Ok::<(), panel::Refusal>(())
     /// ```
     #[must_use]
     pub fn census(&self) -> Census {
-        let mut figures = [0; 5];
+        let mut figures = [0; 6];
         accepted(calls::census(&self.bytes, &mut figures));
-        let [candidates, breaking16, breaking17_only, secure, options] = figures;
+        let [
+            candidates,
+            breaking16,
+            breaking17_only,
+            apart_only,
+            secure,
+            options,
+        ] = figures;
         Census {
             candidates,
             breaking16,
             breaking17_only,
+            apart_only,
             secure,
             options,
         }

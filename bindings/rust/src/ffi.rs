@@ -70,9 +70,9 @@ pub fn transfers(
     unsafe { library::panel_transfers(bytes, length, placement.as_ptr(), lent, room, count) }
 }
 
-pub fn census(description: &[u8], figures: &mut [u64; 5]) -> Status {
+pub fn census(description: &[u8], figures: &mut [u64; 6]) -> Status {
     let (bytes, length) = (description.as_ptr(), description.len());
-    // SAFETY: `bytes` is valid for `length` reads, `figures` for the five words that are written.
+    // SAFETY: `bytes` is valid for `length` reads, `figures` for the six words that are written.
     unsafe { library::panel_census(bytes, length, figures.as_mut_ptr()) }
 }
 

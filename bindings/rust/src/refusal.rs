@@ -3,7 +3,7 @@
 use std::error::Error;
 use std::fmt;
 
-/// Why a call was not answered: a number from 1 to 16, and the place it speaks of.
+/// Why a call was not answered: a number from 1 to 17, and the place it speaks of.
 ///
 /// Shown, it is a sentence that says what is wrong, where, and what to mend.
 ///
@@ -23,7 +23,8 @@ pub struct Refusal {
     /// What is wrong, as docs/FORMAT.md numbers it.
     pub number: u8,
     /// Where: a byte's offset for 1 to 8, a block for 9, an edge for 10, 11, 14 and 15, a position
-    /// of the placement for 13, the length that is needed for 16: of the buffer, or of the rows.
+    /// of the placement for 13, the length that is needed for 16: of the buffer, or of the rows; a
+    /// pair, in the order of the commands 07, for 17.
     pub place: u64,
 }
 
@@ -47,7 +48,7 @@ fn words(number: u8) -> [&'static str; 2] {
     match number {
         1..=8 => words_on_bytes(number),
         9..=12 => words_on_workflow(number),
-        13..=16 => words_on_placement(number),
+        13..=17 => words_on_placement(number),
         _ => ["no such number is known; the place is ", ""],
     }
 }
@@ -95,6 +96,11 @@ fn words_on_placement(number: u8) -> [&'static str; 2] {
             " would keep a copy of a datum with its writer on a cloud below the datum's level \
              (rule 17); place the writer higher, or both on one cloud",
         ],
+        17 => [
+            "pair ",
+            " is not kept apart: some cloud holds both of its data, or copies of them; place the \
+             two, and the services that read or write them, on different clouds",
+        ],
         _ => [
             "the lent memory is too short; lend at least ",
             " bytes for transfers, or as many words of rows and two fifths of that of scratch for \
@@ -112,7 +118,7 @@ fn words_on_bytes(number: u8) -> [&'static str; 2] {
         ],
         2 => [
             "byte ",
-            " begins no known command; commands begin with 00 to 06",
+            " begins no known command; commands begin with 00 to 07",
         ],
         3 => [
             "there is a byte behind the end, at byte ",
@@ -120,7 +126,7 @@ fn words_on_bytes(number: u8) -> [&'static str; 2] {
         ],
         4 => [
             "the command at byte ",
-            " declares one thing too many; there may be 8 clouds, 16 blocks and 32 edges",
+            " declares one thing too many; there may be 8 clouds, 16 blocks, 32 edges and 8 pairs",
         ],
         5 => [
             "the command at byte ",
@@ -133,8 +139,8 @@ fn words_on_bytes(number: u8) -> [&'static str; 2] {
         ],
         7 => [
             "the command at byte ",
-            " repeats an edge, or gives a datum a second writer or a block a second pin; remove \
-             one of the two",
+            " repeats an edge or a pair, gives a datum a second writer or a block a second pin, or \
+             pairs a datum with itself; remove it, or the one before it",
         ],
         _ => [
             "the description of length ",
@@ -154,14 +160,14 @@ mod tests {
 
     #[test]
     fn each_number_has_a_sentence_of_its_own() {
-        let sentences: HashSet<String> = (1..=16).map(|n| words(n).concat()).collect();
-        assert_eq!(sentences.len(), 16);
-        assert!(!sentences.contains(&words(17).concat()));
+        let sentences: HashSet<String> = (1..=17).map(|n| words(n).concat()).collect();
+        assert_eq!(sentences.len(), 17);
+        assert!(!sentences.contains(&words(18).concat()));
     }
 
     #[test]
     fn a_sentence_begins_as_the_programs_answer_and_names_the_place() {
-        for number in 1..=16 {
+        for number in 1..=17 {
             let text = sentence(number, 4711);
             assert!(text.starts_with(&format!("refused {number} 4711: ")));
             let named = text.matches("4711").count();
@@ -174,7 +180,7 @@ mod tests {
     fn some_sentences() {
         assert_eq!(
             sentence(2, 20),
-            "refused 2 20: byte 20 begins no known command; commands begin with 00 to 06"
+            "refused 2 20: byte 20 begins no known command; commands begin with 00 to 07"
         );
         assert_eq!(
             sentence(12, 0),
@@ -185,6 +191,11 @@ mod tests {
             sentence(16, 4),
             "refused 16 4: the lent memory is too short; lend at least 4 bytes for transfers, or \
              as many words of rows and two fifths of that of scratch for a list"
+        );
+        assert_eq!(
+            sentence(17, 3),
+            "refused 17 3: pair 3 is not kept apart: some cloud holds both of its data, or copies \
+             of them; place the two, and the services that read or write them, on different clouds"
         );
     }
 

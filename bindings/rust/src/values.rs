@@ -212,7 +212,7 @@ impl From<[u8; 4]> for Transfer {
     }
 }
 
-/// How many placements there are of each kind. `candidates` is the sum of the next three.
+/// How many placements there are of each kind. `candidates` is the sum of the next four.
 #[derive(Debug, Clone, Copy, PartialEq, Eq, Hash)]
 pub struct Census {
     /// Placements with each block on a cloud of sufficient level, and on its pin if it has one.
@@ -221,7 +221,9 @@ pub struct Census {
     pub breaking16: u64,
     /// Candidates that break rule 17 and not rule 16.
     pub breaking17_only: u64,
-    /// Candidates that break neither.
+    /// Candidates that break neither rule but a pair: some cloud holds two data that are apart.
+    pub apart_only: u64,
+    /// Candidates that break none of these.
     pub secure: u64,
     /// Options that the secure ones make: as many as there are rows.
     pub options: u64,

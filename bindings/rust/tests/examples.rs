@@ -4,6 +4,7 @@ use panel::{Census, Cursor, Description, Placement, Refusal, Transfer, calls};
 
 const INTERVIEW: &[u8] = include_bytes!("../../../examples/interview.bin");
 const SECOND: &[u8] = include_bytes!("../../../examples/second.bin");
+const APART: &[u8] = include_bytes!("../../../examples/apart.bin");
 
 const CLOUD: [u8; 10] = [1, 0, 0, 0, 0, 0, 0, 0, 0, 0];
 const DATUM: [u8; 6] = [2, 0, 0, 0, 0, 0];
@@ -34,11 +35,13 @@ fn the_examples_are_listed_as_stored() {
     assert_eq!(printed(&accepted(INTERVIEW)), stored);
     let stored = include_str!("../../../examples/second.expected");
     assert_eq!(printed(&accepted(SECOND)), stored);
+    let stored = include_str!("../../../examples/apart.expected");
+    assert_eq!(printed(&accepted(APART)), stored);
 }
 
 #[test]
 fn draws_and_list_have_the_same_rows() {
-    for bytes in [INTERVIEW, SECOND, &data_alone(3, 4)] {
+    for bytes in [INTERVIEW, SECOND, APART, &data_alone(3, 4)] {
         let description = accepted(bytes);
         let drawn: Vec<_> = description.rows().collect();
         assert_eq!(drawn, description.list());
@@ -80,9 +83,11 @@ fn a_list_takes_what_its_rows_need() {
 
 #[test]
 fn every_row_is_secure() {
-    let description = accepted(SECOND);
-    for row in description.list() {
-        assert_eq!(description.judge(row.placement()), Ok(()));
+    for bytes in [SECOND, APART] {
+        let description = accepted(bytes);
+        for row in description.list() {
+            assert_eq!(description.judge(row.placement()), Ok(()));
+        }
     }
 }
 
@@ -113,6 +118,81 @@ fn descriptions_are_refused_as_documented() {
     assert_eq!(refusal(&INTERVIEW[..63]), (1, 61));
     assert_eq!(refusal(&[INTERVIEW, &[7]].concat()), (3, 65));
     assert_eq!(refusal(&data_alone(3, 11)), (12, 0));
+}
+
+/// The interview with commands before its end.
+fn interview_with(commands: &[u8]) -> Vec<u8> {
+    [&INTERVIEW[..64], commands, &[0]].concat()
+}
+
+#[test]
+fn pairs_are_refused_as_documented() {
+    assert_eq!(interview_with(&[7, 0, 4]), APART);
+    let refusal = |commands: &[u8]| refusal(&interview_with(commands));
+    assert_eq!(refusal(&[7, 0, 1]), (6, 64));
+    assert_eq!(refusal(&[7, 5, 0]), (6, 64));
+    assert_eq!(refusal(&[7, 4, 4]), (7, 64));
+    assert_eq!(refusal(&[7, 0, 4, 7, 4, 0]), (7, 67));
+    // Eight of the ten pairs of five data; the ninth is one too many, whatever it names.
+    let pairs = [
+        [7, 0, 1],
+        [7, 0, 2],
+        [7, 0, 3],
+        [7, 0, 4],
+        [7, 1, 2],
+        [7, 1, 3],
+        [7, 1, 4],
+        [7, 2, 3],
+    ];
+    let data = data_alone(2, 5);
+    let with = |last: &[u8]| [&data[..50], pairs.as_flattened(), last, &[0]].concat();
+    assert_eq!(accepted(&with(&[])).blocks(), 5);
+    for ninth in [[7, 2, 4], [7, 0, 1], [7, 9, 9]] {
+        let refused = Description::read(&with(&ninth)).unwrap_err();
+        assert_eq!((refused.number, refused.place), (4, 74));
+    }
+}
+
+#[test]
+fn two_data_that_are_apart_never_meet() {
+    let description = accepted(APART);
+    assert_eq!(description.edges(), 4);
+    let broken = |place| Refusal { number: 17, place };
+    assert_eq!(description.judge(&[1, 1, 0, 0, 0].into()), Ok(()));
+    let together = description.judge(&[1, 1, 1, 1, 1].into());
+    assert_eq!(together, Err(broken(0)));
+    // Datum 4 stands on cloud 0, and its writer keeps a copy on cloud 1.
+    let copied = Placement::from([1, 1, 1, 1, 0]);
+    assert_eq!(description.judge(&copied), Err(broken(0)));
+    assert_eq!(description.transfers(&copied), Err(broken(0)));
+    // Rule 16 is looked for first, and the room for transfers last.
+    let first = description.judge(&[1, 0, 1, 1, 1].into());
+    assert_eq!(first.unwrap_err().number, 14);
+    let last = calls::transfers(APART, &copied, &mut [], &mut 0);
+    assert_eq!(last, Err(broken(0)));
+    let census = Census {
+        candidates: 16,
+        breaking16: 8,
+        breaking17_only: 0,
+        apart_only: 6,
+        secure: 2,
+        options: 1,
+    };
+    assert_eq!(description.census(), census);
+}
+
+#[test]
+fn the_first_broken_pair_is_named() {
+    // Service 3 reads datum 2 and writes datum 4, so that the second pair is always broken.
+    let description = accepted(&interview_with(&[7, 4, 0, 7, 2, 4]));
+    let judged = |placement: Placement| {
+        let refusal = description.judge(&placement).unwrap_err();
+        (refusal.number, refusal.place)
+    };
+    assert_eq!(judged([1, 1, 0, 0, 0].into()), (17, 1));
+    assert_eq!(judged([1, 1, 1, 1, 1].into()), (17, 0));
+    let census = description.census();
+    assert_eq!((census.apart_only, census.secure), (8, 0));
 }
 
 #[test]
@@ -168,6 +248,7 @@ fn the_most_candidates_are_listed() {
         candidates: 65_536,
         breaking16: 0,
         breaking17_only: 0,
+        apart_only: 0,
         secure: 65_536,
         options: 65_536,
     };

@@ -15,7 +15,7 @@ line = 4096
 
 -- the words and numbers of an answer take less
 abbrev pub words : ℕ
-words = 128
+words = 160
 
 -- a case's line ends within the buffer
 abbrev pub Within : Reply → Type 0

@@ -94,6 +94,7 @@ fn put_figures(out: &mut Buffer, at: usize, f: Figures) -> usize
     let at = put_number(out, at, f.candidates);
     let at = put_number(out, at, f.breaking16);
     let at = put_number(out, at, f.breaking17only);
+    let at = put_number(out, at, f.apartonly);
     let at = put_number(out, at, f.secure);
     put_number(out, at, f.options)
 }

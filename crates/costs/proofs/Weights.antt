@@ -14,7 +14,7 @@ use Rattle.description.specs.declared.workflow.Edge.{Edge}
 use Rattle.description.specs.Format.{Description, isWrite}
 use Rattle.description.specs.Invariants.{Bounded}
 use Rattle.costs.specs.Cost.{storageOf, cpuOf, ofBlock, cost, edgeCost}
-use Rattle.security.specs.Placements.{serviceCloud, datumCloud, exposes, breaks16, breaks17, broken16, broken17, secure}
+use Rattle.security.specs.Placements.{serviceCloud, datumCloud, exposes, breaks16, breaks17, broken16, broken17, unexposed}
 use Rattle.security.proofs.Moves.{exposes-apart, read-breaks, write-breaks}
 use Rattle.costs.specs.Terms.{blockTerm, edgeExposes, penalty, edgeTerm, weightOf, classIn}
 use Rattle.weights.specs.Weights.{costLimit, radix, firstPenalty, secondPenalty, classOf}
@@ -98,8 +98,8 @@ module _ (d : Description) (p : List ℕ) where
         go false false e f =
             class-light (weightOf d p) (omega (arith, weight-is, at-most, none-kept (breaks16 d p) (d .edges) e, none-kept (breaks17 d p) (d .edges) f))
 
-    -- where it is secure its weight is its cost
-    pub weight-cost : secure d p ≡ true → weightOf d p ≡ cost d p
+    -- where it keeps both rules its weight is its cost
+    pub weight-cost : unexposed d p ≡ true → weightOf d p ≡ cost d p
     weight-cost s =
         let (keeps16, keeps17) = both-pass (not (broken16 d p)) (not (broken17 d p)) .0 s in
         omega (
@@ -111,9 +111,9 @@ module _ (d : Description) (p : List ℕ) where
 
   -- ---- the classes, one by one
 
-  pub class-secure : eqb (classIn d p) 0 ≡ secure d p
+  pub class-unexposed : eqb (classIn d p) 0 ≡ unexposed d p
   unfolding classIn
-  class-secure = go (broken16 d p) (broken17 d p)
+  class-unexposed = go (broken16 d p) (broken17 d p)
     where
       go : (a b : Bool) → eqb (cond a 1 (cond b 2 0)) 0 ≡ (not a && not b)
       go true b = refl

@@ -52,6 +52,6 @@ weightOf d p =
     sum (map (λ b. blockTerm d b (getD p b 0)) (below (length (d .blocks)))) +
     sum (map (λ e. edgeTerm d e (serviceCloud p e) (datumCloud p e)) (d .edges))
 
--- The class of a placement: 0 where it is secure, 1 where it breaks rule 16, 2 where it breaks rule 17 alone.
+-- The class of a placement, by its edges: 0 where it keeps rules 16 and 17, 1 where it breaks rule 16, 2 where it breaks rule 17 alone.
 unfoldable pub classIn : Description → List ℕ → ℕ
 classIn d p = cond (broken16 d p) 1 (cond (broken17 d p) 2 0)

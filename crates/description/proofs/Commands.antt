@@ -6,7 +6,7 @@ use mathlib.Core.Bool.{Bool, true, false, not, _&&_}
 use mathlib.Core.List.{List, [], _∷_}
 use mathlib.Core.Option.{none}
 use lib.ListN.{length}
-use lib.Dec.{ltb}
+use lib.Dec.{ltb, eqb}
 use borrow.Author.Tests.{ltb-true, ltb-false, leb-false, not-false}
 use Rattle.sequences.specs.Lists.{any}
 use Rattle.sequences.proofs.Positions.{everywhere-snoc, everywhere-set}
@@ -17,7 +17,10 @@ use Rattle.description.specs.declared.workflow.Kind.the-variants.{Datum,
 use Rattle.description.specs.declared.workflow.Pin.the-variants.{Free}
 use Rattle.description.specs.declared.workflow.Way.{Way}
 use Rattle.description.specs.declared.workflow.Way.the-variants.{Reads, Writes}
-use Rattle.description.specs.Format.{Description, noCloud, noBlock, cloud as Format·cloud, block as Format·block, pinned, withCloud, withBlock, withEdge, withPin, namesService, namesDatum, namesBlock, namesCloud, isPinned, clash, u8At, u16At, u32At, tooHigh, edgeIn, Command, cloudAt, datumAt, serviceAt, edgeAt, pinAt, commandAt, firstFault, faultOf}
+use Rattle.description.specs.Format.{Description, noCloud, noBlock, cloud as Format·cloud, block as Format·block, pinned, withCloud}
+use Rattle.description.specs.Format.{withBlock, withEdge, withPin, withPair, namesService, namesDatum, namesBlock, namesCloud}
+use Rattle.description.specs.Format.{isPinned, clash, samePair, u8At, u16At, u32At, tooHigh, edgeIn, pairIn, Command, cloudAt}
+use Rattle.description.specs.Format.{datumAt, serviceAt, edgeAt, pinAt, pairAt, commandAt, firstFault, faultOf}
 use Rattle.description.proofs.Turns.{each-command}
 
 -- the cloud and the blocks that a command declares
@@ -66,6 +69,15 @@ module _ (s : List ℕ) (d : Description) where
     pub block : u8At s 1 < length (d .blocks)
     pub cloud : u8At s 2 < length (d .clouds)
     pub free : isPinned (Format·block d (u8At s 1) .pin) ≡ false
+
+  -- 07: there is room for the pair, its names are those of two data, and no pair has the same
+  pub record PairTaken : Type 0 where
+    pub whole : 3 ≤ length s
+    pub room : length (d .pairs) < 8
+    pub left : namesDatum d (u8At s 1) ≡ true
+    pub right : namesDatum d (u8At s 2) ≡ true
+    pub two : eqb (u8At s 1) (u8At s 2) ≡ false
+    pub fresh : any (samePair (pairIn s)) (d .pairs) ≡ false
 
 -- ---- from the faults, none of which it has
 
@@ -121,6 +133,20 @@ module _ (s : List ℕ) (d : Description) where
         free = f .1 .1 .0;
       }
 
+  pub pair-taken : faultOf s (pairAt s d) ≡ none → PairTaken s d
+  pair-taken e =
+      let f = unrefused s (pairAt s d) e in
+      let named = both (namesDatum d (u8At s 1)) (namesDatum d (u8At s 2)) (f .1 .1 .0) in
+      let new = or-fails (eqb (u8At s 1) (u8At s 2)) (any (samePair (pairIn s)) (d .pairs)) (f .1 .1 .1 .0) in
+      record {
+        whole = omega (arith, ltb-false, leb-false);
+        room = omega (arith, ltb-false, leb-false);
+        left = named .0;
+        right = named .1;
+        two = new .0;
+        fresh = new .1;
+      }
+
 -- ---- by cases
 
 -- nothing is assumed of the bytes
@@ -134,6 +160,7 @@ pub record Keeps (B : List ℕ → Type 0) (P : Description → Type 0) : Type 0
   pub service : (s : List ℕ) (d : Description) → B s → P d → ServiceTaken s d → P (withBlock d (serviceIn s))
   pub edge : (w : Way) (s : List ℕ) (d : Description) → B s → P d → EdgeTaken s d w → P (withEdge d (edgeIn w s))
   pub pin : (s : List ℕ) (d : Description) → B s → P d → PinTaken s d → P (withPin d (u8At s 1) (u8At s 2))
+  pub pair : (s : List ℕ) (d : Description) → B s → P d → PairTaken s d → P (withPair d (pairIn s))
 
 module _ {B : List ℕ → Type 0} {P : Description → Type 0} (k : Keeps B P) where
   pub keeps-command : (s : List ℕ) (d : Description) → B s → P d → faultOf s (commandAt s d) ≡ none → P (commandAt s d .after)
@@ -145,6 +172,7 @@ module _ {B : List ℕ → Type 0} {P : Description → Type 0} (k : Keeps B P) 
       (λ e. k .edge Reads s d b p (edge-taken s d Reads e))
       (λ e. k .edge Writes s d b p (edge-taken s d Writes e))
       (λ e. k .pin s d b p (pin-taken s d e))
+      (λ e. k .pair s d b p (pair-taken s d e))
       (λ e. p)
 
 -- ---- what holds of each cloud, and of each block whatever its pin
@@ -157,6 +185,7 @@ module _ (B : List ℕ → Type 0) (P : Cloud → Type 0) (new : (s : List ℕ) 
     service = λ s d b p t. p;
     edge = λ w s d b p t. p;
     pin = λ s d b p t. p;
+    pair = λ s d b p t. p;
   }
 
 module _ (B : List ℕ → Type 0) (P : Block → Type 0) (newDatum : (s : List ℕ) (d : Description) → B s → DatumTaken s d → P (datumIn s))
@@ -170,4 +199,5 @@ module _ (B : List ℕ → Type 0) (P : Block → Type 0) (newDatum : (s : List 
     pin = λ s d b p t.
         let x = Format·block d (u8At s 1) in
         everywhere-set P noBlock (d .blocks) (u8At s 1) (pinned x (u8At s 2)) p (repin x (u8At s 2) (p (u8At s 1)));
+    pair = λ s d b p t. p;
   }

@@ -1,4 +1,4 @@
--- The numbers of a cloud, block or edge give it back.
+-- The numbers of a cloud, block, edge or pair give it back.
 use mathlib.Core.Path.{_≡_, refl, sym, ap, _∙_}
 use Prim.Native.Nat.{ℕ, _+_, _-_, _%_, _<_}
 use native.Mathlib.Nat.{mod-eq-of-lt}
@@ -13,7 +13,8 @@ use Rattle.description.specs.declared.workflow.Kind.the-variants.{Datum,
 use Rattle.description.specs.declared.workflow.Pin.{Pin}
 use Rattle.description.specs.declared.workflow.Pin.the-variants.{To}
 use Rattle.description.specs.declared.workflow.Edge.{Edge}
-use Rattle.description.specs.Layout.{toCloud, toBlock, toPin, toWay, toEdge}
+use Rattle.description.specs.declared.workflow.Pair.{Pair}
+use Rattle.description.specs.Layout.{toCloud, toBlock, toPin, toWay, toEdge, toPair}
 
 pub cloud-back : (c : Cloud) → c .level < 256 → c .storage < 65536 → c .inward < 65536 → c .outward < 65536 → c .cpu < 65536
     → toCloud (record { a = c .level; b = c .storage; c = c .inward; d = c .outward; e = c .cpu }) ≡ c
@@ -41,3 +42,6 @@ module _ (b : Block) (pin : ℕ) (l : b .level < 256) (p : toPin pin ≡ b .pin)
 pub edge-back : (e : Edge) (way : ℕ) → toWay way ≡ e .way → e .service < 256 → e .datum < 256
     → toEdge (record { a = way; b = e .service; c = e .datum; d = 0; e = 0 }) ≡ e
 edge-back e way w s d = ap (λ v. record { way = v; service = e .service % 256; datum = e .datum % 256 }) w ∙ rw (mod-eq-of-lt s, mod-eq-of-lt d) refl
+
+pub pair-back : (a : Pair) → a .left < 256 → a .right < 256 → toPair (record { a = a .left; b = a .right; c = 0; d = 0; e = 0 }) ≡ a
+pair-back a l r = rw (mod-eq-of-lt l, mod-eq-of-lt r) refl

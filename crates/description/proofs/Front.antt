@@ -1,4 +1,4 @@
--- THE FIRST BYTES DECIDE. Good commands fill at most 336 bytes, and no command has more than 10: whatever is read of a longer input, its
+-- THE FIRST BYTES DECIDE. Good commands fill at most 360 bytes, and no command has more than 10: whatever is read of a longer input, its
 -- first bad command, or its 00 with a byte behind it, lies within them.
 use Prim.Native.Nat.{ℕ, zero, suc, pred, _+_, _-_, _*_, _≤_, _<_}
 use native.Mathlib.Decide.{decLe}
@@ -17,8 +17,9 @@ use Rattle.description.specs.Bytes.{decidingBytes}
 use Rattle.description.specs.declared.workflow.Block.{Block}
 use Rattle.description.specs.declared.workflow.Way.{Way}
 use Rattle.description.specs.declared.workflow.Way.the-variants.{Reads, Writes}
-use Rattle.description.specs.Format.{Description, nothing, noBlock, pinned, isPinned, u8At, edgeIn, edgeAt, block, Command, commandAt, faultOf, firstFault, ended, readFrom, inhabited, decode}
-use Rattle.description.proofs.Commands.{cloudIn, datumIn, serviceIn, cloud-taken, datum-taken, service-taken, edge-taken, pin-taken}
+use Rattle.description.specs.Format.{Description, nothing, noBlock, pinned, isPinned, u8At, edgeIn, edgeAt, pairIn, block, Command}
+use Rattle.description.specs.Format.{commandAt, faultOf, firstFault, ended, readFrom, inhabited, decode}
+use Rattle.description.proofs.Commands.{cloudIn, datumIn, serviceIn, cloud-taken, datum-taken, service-taken, edge-taken, pin-taken, pair-taken}
 use Rattle.description.proofs.Turns.{each-command, width-positive, width-few, ends, fails, goes}
 
 -- three bytes for the pin of each block that has none
@@ -26,9 +27,10 @@ abbrev pinsLeft : List Block → ℕ
 pinsLeft [] = 0
 pinsLeft (b ∷ bs) = cond (isPinned (b .pin)) 0 3 + pinsLeft bs
 
--- How many bytes of good commands there is room for: 10 for a cloud, 7 for a block and 3 for its pin, 3 for an edge.
+-- How many bytes of good commands there is room for: 10 for a cloud, 7 for a block and 3 for its pin, 3 for an edge or a pair.
 abbrev left : Description → ℕ
-left d = 10 * (8 - length (d .clouds)) + 10 * (16 - length (d .blocks)) + 3 * (32 - length (d .edges)) + pinsLeft (d .blocks)
+left d =
+    10 * (8 - length (d .clouds)) + 10 * (16 - length (d .blocks)) + 3 * (32 - length (d .edges)) + 3 * (8 - length (d .pairs)) + pinsLeft (d .blocks)
 
 pins-snoc : (l : List Block) (b : Block) → pinsLeft (l ++ (b ∷ [])) ≤ pinsLeft l + 3
 pins-snoc [] b = go (isPinned (b .pin))
@@ -58,6 +60,7 @@ spends s d =
     let t = pin-taken s d e in
     let x = pinned (block d (u8At s 1)) (u8At s 2) in
     omega (arith, length-set (d .blocks) (u8At s 1) x, pins-set (d .blocks) (u8At s 1) (u8At s 2) (t .block) (t .free)))
+    (λ e. let t = pair-taken s d e in omega (arith, length-append (d .pairs) (pairIn s ∷ [])))
     (λ e. absurd (Option·some-ne-none 2 (cond-none (ltb (length s) 1) 1 (some 2) e .1)))
   where
     edge : (w : Way) → faultOf s (edgeAt w s d) ≡ none → left (edgeAt w s d .after) + 3 ≤ left d

@@ -1,4 +1,5 @@
 pub mod Arrays
+pub mod CommandBytes
 pub mod Commands
 pub mod Fields
 pub mod Front

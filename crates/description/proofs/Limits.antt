@@ -18,23 +18,26 @@ use Rattle.description.specs.declared.workflow.Kind.{Kind}
 use Rattle.description.specs.declared.workflow.Pin.{Pin}
 use Rattle.description.specs.declared.workflow.Pin.the-variants.{Free, To}
 use Rattle.description.specs.declared.workflow.Edge.{Edge}
+use Rattle.description.specs.declared.workflow.Pair.{Pair}
 use Rattle.description.specs.declared.workflow.Way.{Way}
 use Rattle.description.specs.declared.workflow.Way.the-variants.{Reads, Writes}
 use Rattle.description.specs.Bytes.{Bytes}
-use Rattle.description.specs.Format.{Description, noBlock, noEdge, cloud, block, edge, pinned, isDatum, isWrite, sameWay, clash, u8At, u16At, u32At, edgeIn, decode}
+use Rattle.description.specs.Format.{Description, noBlock, noEdge, noPair, cloud, block, pinned, isDatum, isWrite, sameWay, clash}
+use Rattle.description.specs.Format.{u8At, u16At, u32At, edgeIn, pairIn, decode}
 use Rattle.description.specs.Invariants.{Limits, WellFormed, InRange, RatesFit, lowClearance, pinBelow, kindFits}
-use Rattle.description.proofs.Commands.{EdgeTaken, Any, Keeps, each-cloud, each-block, datumIn, serviceIn}
+use Rattle.description.proofs.Commands.{EdgeTaken, PairTaken, Any, Keeps, each-cloud, each-block, datumIn, serviceIn}
 use Rattle.description.proofs.Reading.{decoded-bytes, decoded-any, declared}
 
--- ---- the three limits
+-- ---- the four limits
 
 limits : Keeps Any Limits
 limits = record {
-  cloud = λ s d b l t. record { clouds = simp length-append (omega arith); blocks = l .blocks; edges = l .edges };
-  datum = λ s d b l t. record { clouds = l .clouds; blocks = simp length-append (omega arith); edges = l .edges };
-  service = λ s d b l t. record { clouds = l .clouds; blocks = simp length-append (omega arith); edges = l .edges };
-  edge = λ w s d b l t. record { clouds = l .clouds; blocks = l .blocks; edges = simp length-append (omega arith) };
-  pin = λ s d b l t. record { clouds = l .clouds; blocks = simp length-set (l .blocks); edges = l .edges };
+  cloud = λ s d b l t. record { clouds = simp length-append (omega arith); blocks = l .blocks; edges = l .edges; pairs = l .pairs };
+  datum = λ s d b l t. record { clouds = l .clouds; blocks = simp length-append (omega arith); edges = l .edges; pairs = l .pairs };
+  service = λ s d b l t. record { clouds = l .clouds; blocks = simp length-append (omega arith); edges = l .edges; pairs = l .pairs };
+  edge = λ w s d b l t. record { clouds = l .clouds; blocks = l .blocks; edges = simp length-append (omega arith); pairs = l .pairs };
+  pin = λ s d b l t. record { clouds = l .clouds; blocks = simp length-set (l .blocks); edges = l .edges; pairs = l .pairs };
+  pair = λ s d b l t. record { clouds = l .clouds; blocks = l .blocks; edges = l .edges; pairs = simp length-append (omega arith) };
 }
 
 -- ---- levels, locations, clearances
@@ -80,6 +83,7 @@ pins = record {
   service = λ s d b p t. everywhere-snoc (λ (x : Block). pinBelow (length (d .clouds)) (x .pin)) noBlock (d .blocks) (serviceIn s) p tt;
   edge = λ w s d b p t. p;
   pin = λ s d b p t. everywhere-set (λ (x : Block). pinBelow (length (d .clouds)) (x .pin)) noBlock (d .blocks) (u8At s 1) (pinned (block d (u8At s 1)) (u8At s 2)) p (t .cloud);
+  pair = λ s d b p t. p;
 }
 
 -- ---- names: a block that is declared stays declared, with its kind
@@ -105,8 +109,8 @@ extends-pin l j k = record {
     b : Block
     b = pinned (getD l j noBlock) k
 
--- edges name blocks of a kind: `side` is an edge's service or datum, and `right` tests whether a datum is meant
-module _ (side : Edge → ℕ) (right : Bool → Bool) where
+-- edges and pairs name blocks of a kind: `right` tests whether a datum is meant
+module _ (right : Bool → Bool) where
   abbrev Named : List Block → ℕ → Type 0
   Named l b = ltb b (length l) && right (isDatum (getD l b noBlock .kind)) ≡ true
 
@@ -117,14 +121,39 @@ module _ (side : Edge → ℕ) (right : Bool → Bool) where
       both-pass (ltb b (length m)) (right (isDatum (getD m b noBlock .kind))) .1
       (lt-ltb b (length m) (omega (arith, e .more)), rw (e .same b h) (q .1))
 
-  names : ((w : Way) (s : List ℕ) (d : Description) → EdgeTaken s d w → Named (d .blocks) (side (edgeIn w s)))
-      → Keeps Any (λ d. (n : ℕ) → n < length (d .edges) → Named (d .blocks) (side (edge d n)))
-  names new = record {
+  -- what stands on one side of each element of a list is named: so it stays with more blocks, and with one more element
+  module _ {A : Type 0} (side : A → ℕ) (z : A) where
+    abbrev Each : List Block → List A → Type 0
+    Each l xs = (n : ℕ) → n < length xs → Named l (side (getD xs n z))
+
+    each-still : (l m : List Block) (xs : List A) → Extends l m → Each l xs → Each m xs
+    each-still l m xs e p n h = still l m (side (getD xs n z)) e (p n h)
+
+    each-snoc : (l : List Block) (xs : List A) (x : A) → Each l xs → Named l (side x) → Each l (xs ++ (x ∷ []))
+    each-snoc l xs x p new n h = elim (snoc-at z xs x n h) [ inl y ↦ rw (y .1) (p n (y .0)) | inr y ↦ rw (y .1) new ]
+
+  -- an edge's service or datum
+  names : (side : Edge → ℕ) → ((w : Way) (s : List ℕ) (d : Description) → EdgeTaken s d w → Named (d .blocks) (side (edgeIn w s)))
+      → Keeps Any (λ d. Each side noEdge (d .blocks) (d .edges))
+  names side new = record {
     cloud = λ s d b p t. p;
-    datum = λ s d b p t n h. still (d .blocks) _ (side (edge d n)) (extends-snoc (d .blocks) (datumIn s)) (p n h);
-    service = λ s d b p t n h. still (d .blocks) _ (side (edge d n)) (extends-snoc (d .blocks) (serviceIn s)) (p n h);
-    edge = λ w s d b p t n h. elim (snoc-at noEdge (d .edges) (edgeIn w s) n h) [ inl x ↦ rw (x .1) (p n (x .0)) | inr y ↦ rw (y .1) (new w s d t) ];
-    pin = λ s d b p t n h. still (d .blocks) _ (side (edge d n)) (extends-pin (d .blocks) (u8At s 1) (u8At s 2)) (p n h);
+    datum = λ s d b p t. each-still side noEdge (d .blocks) _ (d .edges) (extends-snoc (d .blocks) (datumIn s)) p;
+    service = λ s d b p t. each-still side noEdge (d .blocks) _ (d .edges) (extends-snoc (d .blocks) (serviceIn s)) p;
+    edge = λ w s d b p t. each-snoc side noEdge (d .blocks) (d .edges) (edgeIn w s) p (new w s d t);
+    pin = λ s d b p t. each-still side noEdge (d .blocks) _ (d .edges) (extends-pin (d .blocks) (u8At s 1) (u8At s 2)) p;
+    pair = λ s d b p t. p;
+  }
+
+  -- one of a pair's data
+  pair-names : (side : Pair → ℕ) → ((s : List ℕ) (d : Description) → PairTaken s d → Named (d .blocks) (side (pairIn s)))
+      → Keeps Any (λ d. Each side noPair (d .blocks) (d .pairs))
+  pair-names side new = record {
+    cloud = λ s d b p t. p;
+    datum = λ s d b p t. each-still side noPair (d .blocks) _ (d .pairs) (extends-snoc (d .blocks) (datumIn s)) p;
+    service = λ s d b p t. each-still side noPair (d .blocks) _ (d .pairs) (extends-snoc (d .blocks) (serviceIn s)) p;
+    edge = λ w s d b p t. p;
+    pin = λ s d b p t. each-still side noPair (d .blocks) _ (d .pairs) (extends-pin (d .blocks) (u8At s 1) (u8At s 2)) p;
+    pair = λ s d b p t. each-snoc side noPair (d .blocks) (d .pairs) (pairIn s) p (new s d t);
   }
 
 -- ---- clashes
@@ -148,6 +177,7 @@ apart = record {
   service = λ s d b p t. p;
   edge = λ w s d b p t. apart-snoc clash clash-turn noEdge (d .edges) (edgeIn w s) p (t .fresh);
   pin = λ s d b p t. p;
+  pair = λ s d b p t. p;
 }
 
 -- what is decoded, from any list of numbers, is well formed
@@ -160,10 +190,12 @@ decoded-wellFormed s d r = record {
   blockLow = decoded-any blockLow (λ b. zero-le) s d r;
   clearanceLow = decoded-any clearanceLow (λ b. tt) s d r;
   pins = decoded-any pins (λ b. tt) s d r;
-  service = decoded-any (names (λ e. e .service) not (λ w s d t. t .service)) (λ n h. absurd (not-suc-le-zero h)) s d r;
-  datum = decoded-any (names (λ e. e .datum) (λ t. t) (λ w s d t. t .datum)) (λ n h. absurd (not-suc-le-zero h)) s d r;
+  service = decoded-any (names not (λ e. e .service) (λ w s d t. t .service)) (λ n h. absurd (not-suc-le-zero h)) s d r;
+  datum = decoded-any (names (λ t. t) (λ e. e .datum) (λ w s d t. t .datum)) (λ n h. absurd (not-suc-le-zero h)) s d r;
   distinct = λ n m h k e. clashless n m h k (rw e);
   oneWriter = λ n m h k e f g. clashless n m h k (rw (e, f, eq-eqb _ _ g, or-true));
+  pairLeft = decoded-any (pair-names (λ t. t) (λ a. a .left) (λ s d t. t .left)) (λ n h. absurd (not-suc-le-zero h)) s d r;
+  pairRight = decoded-any (pair-names (λ t. t) (λ a. a .right) (λ s d t. t .right)) (λ n h. absurd (not-suc-le-zero h)) s d r;
 }
   where
     clashless : Apart clash noEdge (d .edges)

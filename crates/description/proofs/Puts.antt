@@ -1,4 +1,4 @@
--- What the words describe once a record is put: one more cloud, block or edge, or another block.
+-- What the words describe once a record is put: one more cloud, block, edge or pair, or another block.
 use mathlib.Core.Path.{_≡_, refl, sym, ap, _∙_}
 use Prim.Native.Nat.{ℕ, _+_, _≤_, _<_, min}
 use native.Mathlib.Omega.{arith}
@@ -8,16 +8,17 @@ use Rattle.description.specs.declared.words.Record.{Record}
 use Rattle.description.specs.declared.workflow.Cloud.{Cloud}
 use Rattle.description.specs.declared.workflow.Block.{Block}
 use Rattle.description.specs.declared.workflow.Edge.{Edge}
-use Rattle.description.specs.Format.{withCloud, withBlock, withEdge}
+use Rattle.description.specs.declared.workflow.Pair.{Pair}
+use Rattle.description.specs.Format.{withCloud, withBlock, withEdge, withPair}
 use Rattle.description.specs.Meaning.{describes, counted}
-use Rattle.description.specs.Layout.{mostClouds, mostBlocks, mostEdges, firstCloud, firstBlock, firstEdge, counts, wordCount}
-use Rattle.description.specs.Layout.{recordAt, putRecord, part, toCloud, toBlock, toEdge}
+use Rattle.description.specs.Layout.{mostClouds, mostBlocks, mostEdges, mostPairs, firstCloud, firstBlock, firstEdge, firstPair, counts}
+use Rattle.description.specs.Layout.{wordCount, recordAt, putRecord, part, toCloud, toBlock, toEdge, toPair}
 use Rattle.description.proofs.Arrays.{at-inside, one-more, another}
 use Rattle.description.proofs.Parts.{length-put, record-same, record-other, part-length, part-at, part-put, part-apart}
 
-counted-same : {k n : Record} {cs ds : List Cloud} {bs gs : List Block} {es fs : List Edge} → k ≡ n → cs ≡ ds → bs ≡ gs → es ≡ fs
-    → counted k cs bs es ≡ counted n ds gs fs
-counted-same e f g h = cc
+counted-same : {k n : Record} {cs ds : List Cloud} {bs gs : List Block} {es fs : List Edge} {ps qs : List Pair}
+    → k ≡ n → cs ≡ ds → bs ≡ gs → es ≡ fs → ps ≡ qs → counted k cs bs es ps ≡ counted n ds gs fs qs
+counted-same e f g h i = cc
 
 -- what the words describe, by their records
 
@@ -39,10 +40,14 @@ module _ (w : List ℕ) (l : length w ≡ wordCount) where
   pub recounted : (k : Record)
       → describes (putRecord w counts k) ≡
       counted k (part toCloud firstCloud mostClouds w) (part toBlock firstBlock mostBlocks w) (part toEdge firstEdge mostEdges w)
+      (part toPair firstPair mostPairs w)
   unfolding describes
   recounted k =
-      counted-same (record-same w counts k (omega arith)) (part-apart toCloud firstCloud mostClouds w counts k (λ q a b e. omega arith))
-      (part-apart toBlock firstBlock mostBlocks w counts k (λ q a b e. omega arith)) (part-apart toEdge firstEdge mostEdges w counts k (λ q a b e. omega arith))
+      let clouds = part-apart toCloud firstCloud mostClouds w counts k (λ q a b t. omega arith) in
+      let blocks = part-apart toBlock firstBlock mostBlocks w counts k (λ q a b t. omega arith) in
+      let edges = part-apart toEdge firstEdge mostEdges w counts k (λ q a b t. omega arith) in
+      let pairs = part-apart toPair firstPair mostPairs w counts k (λ q a b t. omega arith) in
+      counted-same (record-same w counts k (omega arith)) clouds blocks edges pairs
 
 module _ (w : List ℕ) (l : length w ≡ wordCount) (n : ℕ) (x : Record) where
   abbrev cloudCounts : Record
@@ -55,9 +60,10 @@ module _ (w : List ℕ) (l : length w ≡ wordCount) (n : ℕ) (x : Record) wher
       let at = firstCloud + n in
       let blocks = part-apart toBlock firstBlock mostBlocks w at x (λ q a b t. omega arith) in
       let edges = part-apart toEdge firstEdge mostEdges w at x (λ q a b t. omega arith) in
+      let pairs = part-apart toPair firstPair mostPairs w at x (λ q a b t. omega arith) in
       recounted (putRecord w at x) (length-put w at x ∙ l) cloudCounts ∙
-      counted-same {k = cloudCounts} refl (part-put toCloud firstCloud mostClouds w n x h (omega arith)) blocks edges ∙
-      ap (λ cs. record { clouds = cs; blocks = describes w .blocks; edges = describes w .edges })
+      counted-same {k = cloudCounts} refl (part-put toCloud firstCloud mostClouds w n x h (omega arith)) blocks edges pairs ∙
+      ap (λ cs. record { clouds = cs; blocks = describes w .blocks; edges = describes w .edges; pairs = describes w .pairs })
       (one-more (recordAt w counts .a) (part toCloud firstCloud mostClouds w) n (toCloud x) e (omega (arith, part-length toCloud firstCloud mostClouds w)))
 
   abbrev blockCounts : Record
@@ -70,9 +76,10 @@ module _ (w : List ℕ) (l : length w ≡ wordCount) (n : ℕ) (x : Record) wher
       let at = firstBlock + n in
       let clouds = part-apart toCloud firstCloud mostClouds w at x (λ q a b t. omega arith) in
       let edges = part-apart toEdge firstEdge mostEdges w at x (λ q a b t. omega arith) in
+      let pairs = part-apart toPair firstPair mostPairs w at x (λ q a b t. omega arith) in
       recounted (putRecord w at x) (length-put w at x ∙ l) blockCounts ∙
-      counted-same {k = blockCounts} refl clouds (part-put toBlock firstBlock mostBlocks w n x h (omega arith)) edges ∙
-      ap (λ bs. record { clouds = describes w .clouds; blocks = bs; edges = describes w .edges })
+      counted-same {k = blockCounts} refl clouds (part-put toBlock firstBlock mostBlocks w n x h (omega arith)) edges pairs ∙
+      ap (λ bs. record { clouds = describes w .clouds; blocks = bs; edges = describes w .edges; pairs = describes w .pairs })
       (one-more (recordAt w counts .b) (part toBlock firstBlock mostBlocks w) n (toBlock x) e (omega (arith, part-length toBlock firstBlock mostBlocks w)))
 
   abbrev edgeCounts : Record
@@ -85,21 +92,39 @@ module _ (w : List ℕ) (l : length w ≡ wordCount) (n : ℕ) (x : Record) wher
       let at = firstEdge + n in
       let clouds = part-apart toCloud firstCloud mostClouds w at x (λ q a b t. omega arith) in
       let blocks = part-apart toBlock firstBlock mostBlocks w at x (λ q a b t. omega arith) in
+      let pairs = part-apart toPair firstPair mostPairs w at x (λ q a b t. omega arith) in
       recounted (putRecord w at x) (length-put w at x ∙ l) edgeCounts ∙
-      counted-same {k = edgeCounts} refl clouds blocks (part-put toEdge firstEdge mostEdges w n x h (omega arith)) ∙
-      ap (λ es. record { clouds = describes w .clouds; blocks = describes w .blocks; edges = es })
+      counted-same {k = edgeCounts} refl clouds blocks (part-put toEdge firstEdge mostEdges w n x h (omega arith)) pairs ∙
+      ap (λ es. record { clouds = describes w .clouds; blocks = describes w .blocks; edges = es; pairs = describes w .pairs })
       (one-more (recordAt w counts .c) (part toEdge firstEdge mostEdges w) n (toEdge x) e (omega (arith, part-length toEdge firstEdge mostEdges w)))
+
+  abbrev pairCounts : Record
+  pairCounts = record { a = recordAt w counts .a; b = recordAt w counts .b; c = recordAt w counts .c; d = n + 1; e = recordAt w counts .e }
+
+  pub one-more-pair : n ≡ length (describes w .pairs) → n < mostPairs
+      → describes (putRecord (putRecord w (firstPair + n) x) counts pairCounts) ≡ withPair (describes w) (toPair x)
+  unfolding describes
+  one-more-pair e h =
+      let at = firstPair + n in
+      let clouds = part-apart toCloud firstCloud mostClouds w at x (λ q a b t. omega arith) in
+      let blocks = part-apart toBlock firstBlock mostBlocks w at x (λ q a b t. omega arith) in
+      let edges = part-apart toEdge firstEdge mostEdges w at x (λ q a b t. omega arith) in
+      recounted (putRecord w at x) (length-put w at x ∙ l) pairCounts ∙
+      counted-same {k = pairCounts} refl clouds blocks edges (part-put toPair firstPair mostPairs w n x h (omega arith)) ∙
+      ap (λ ps. record { clouds = describes w .clouds; blocks = describes w .blocks; edges = describes w .edges; pairs = ps })
+      (one-more (recordAt w counts .d) (part toPair firstPair mostPairs w) n (toPair x) e (omega (arith, part-length toPair firstPair mostPairs w)))
 
   -- another block n
   pub another-block : n < length (describes w .blocks)
       → let d = describes w in
-      describes (putRecord w (firstBlock + n) x) ≡ record { clouds = d .clouds; blocks = set (d .blocks) n (toBlock x); edges = d .edges }
+      describes (putRecord w (firstBlock + n) x) ≡ record { clouds = d .clouds; blocks = set (d .blocks) n (toBlock x); edges = d .edges; pairs = d .pairs }
   unfolding describes
   another-block h =
       let k : n < mostBlocks = omega (arith, how-many toBlock firstBlock mostBlocks (recordAt w counts .b) w) in
       let at = firstBlock + n in
       let clouds = part-apart toCloud firstCloud mostClouds w at x (λ q a b t. omega arith) in
       let edges = part-apart toEdge firstEdge mostEdges w at x (λ q a b t. omega arith) in
-      counted-same (record-other w at x counts (λ t. omega arith)) clouds (part-put toBlock firstBlock mostBlocks w n x k (omega arith)) edges ∙
-      ap (λ bs. record { clouds = describes w .clouds; blocks = bs; edges = describes w .edges })
+      let pairs = part-apart toPair firstPair mostPairs w at x (λ q a b t. omega arith) in
+      counted-same (record-other w at x counts (λ t. omega arith)) clouds (part-put toBlock firstBlock mostBlocks w n x k (omega arith)) edges pairs ∙
+      ap (λ bs. record { clouds = describes w .clouds; blocks = bs; edges = describes w .edges; pairs = describes w .pairs })
       (another (recordAt w counts .b) (part toBlock firstBlock mostBlocks w) n (toBlock x) h)

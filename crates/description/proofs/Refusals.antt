@@ -29,7 +29,7 @@ fault-number (f ∷ fs) n h e = go (f .1) e (fault-number fs n (h .2))
 
 numbered : (s : List ℕ) (d : Description) → Numbered (commandAt s d .faults)
 numbered s d =
-    each-command (λ c. Numbered (c .faults)) s d four-five four-five four-five four-six-seven four-six-seven six-seven (omega arith, omega arith, tt)
+    each-command (λ c. Numbered (c .faults)) s d four-five four-five four-five four-six-seven four-six-seven six-seven four-six-seven (omega arith, omega arith, tt)
   where
     four-five : (0 < 4) × (4 ≤ 8) × ((0 < 5) × (5 ≤ 8) × Unit {0})
     four-five = (omega arith, omega arith, (omega arith, omega arith, tt))

@@ -14,7 +14,8 @@ use borrow.Author.Tests.{eq-eqb, ne-eqb, ltb-false}
 use Rattle.sequences.specs.Results.{ok, refused}
 use Rattle.sequences.proofs.Tests.{cond-ind, cond-none}
 use Rattle.description.specs.declared.workflow.Way.the-variants.{Reads, Writes}
-use Rattle.description.specs.Format.{Description, u8At, Command, cloudAt, datumAt, serviceAt, edgeAt, pinAt, unknown, readFrom, ended, commandAt, firstFault, faultOf}
+use Rattle.description.specs.Format.{Description, u8At, Command, cloudAt, datumAt, serviceAt, edgeAt, pinAt, pairAt, unknown}
+use Rattle.description.specs.Format.{readFrom, ended, commandAt, firstFault, faultOf}
 
 -- the bytes of a command that was read are stepped over at once
 skipped : (rest : List ℕ) (k at : ℕ) (d : Description) → k ≤ length rest → readFrom rest k at d ≡ readFrom (drop k rest) 0 (at + k) d
@@ -27,21 +28,21 @@ skipped (b ∷ rest) (suc k) at d h =
 pub whole : (s : List ℕ) (c : Command) → faultOf s c ≡ none → c .width ≤ length s
 whole s c e = ltb-false (length s) (c .width) (cond-none (ltb (length s) (c .width)) 1 (firstFault (c .faults)) e .0)
 
--- what holds of each of the seven commands holds of the one that s begins with
+-- what holds of each of the eight commands holds of the one that s begins with
 pub each-command : (P : Command → Type 0) (s : List ℕ) (d : Description) → P (cloudAt s d) → P (datumAt s d) → P (serviceAt s d)
-    → P (edgeAt Reads s d) → P (edgeAt Writes s d) → P (pinAt s d) → P (unknown d) → P (commandAt s d)
-each-command P s d cloud datum service read write pin other =
-    either 1 cloud (either 2 datum (either 3 service (either 4 read (either 5 write (either 6 pin other)))))
+    → P (edgeAt Reads s d) → P (edgeAt Writes s d) → P (pinAt s d) → P (pairAt s d) → P (unknown d) → P (commandAt s d)
+each-command P s d cloud datum service read write pin pair other =
+    either 1 cloud (either 2 datum (either 3 service (either 4 read (either 5 write (either 6 pin (either 7 pair other))))))
   where
     either : (n : ℕ) {x y : Command} → P x → P y → P (cond (eqb (u8At s 0) n) x y)
     either n {x} {y} p q = cond-ind P (eqb (u8At s 0) n) x y (λ _. p) (λ _. q)
 
 -- a command has a byte at least, and ten at most
 pub width-positive : (s : List ℕ) (d : Description) → 1 ≤ commandAt s d .width
-width-positive s d = each-command (λ c. 1 ≤ c .width) s d (lit≤ tt) (lit≤ tt) (lit≤ tt) (lit≤ tt) (lit≤ tt) (lit≤ tt) (lit≤ tt)
+width-positive s d = each-command (λ c. 1 ≤ c .width) s d (lit≤ tt) (lit≤ tt) (lit≤ tt) (lit≤ tt) (lit≤ tt) (lit≤ tt) (lit≤ tt) (lit≤ tt)
 
 pub width-few : (s : List ℕ) (d : Description) → commandAt s d .width ≤ 10
-width-few s d = each-command (λ c. c .width ≤ 10) s d (lit≤ tt) (lit≤ tt) (lit≤ tt) (lit≤ tt) (lit≤ tt) (lit≤ tt) (lit≤ tt)
+width-few s d = each-command (λ c. c .width ≤ 10) s d (lit≤ tt) (lit≤ tt) (lit≤ tt) (lit≤ tt) (lit≤ tt) (lit≤ tt) (lit≤ tt) (lit≤ tt)
 
 -- at a list with a head: the reader ends, refuses, or takes the command and goes on
 module _ (b : ℕ) (rest : List ℕ) (at : ℕ) (d : Description) where

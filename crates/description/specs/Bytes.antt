@@ -7,7 +7,7 @@ use lib.ListN.{getD}
 abbrev pub Bytes : List ℕ → Type 0
 Bytes s = (i : ℕ) → getD s i 0 < 256
 
--- Of input of any length so many bytes decide what Read answers (`front-decides`): 8 clouds of 10 bytes, 16 blocks of 7, 32 edges and
--- 16 pins of 3 are all that good commands can be, and the command behind them has 10 at most.
+-- Of input of any length so many bytes decide what Read answers (`front-decides`): 8 clouds of 10 bytes, 16 blocks of 7, 32 edges,
+-- 16 pins and 8 pairs of 3 are all that good commands can be, and the command behind them has 10 at most.
 abbrev pub decidingBytes : ℕ
-decidingBytes = 8 * 10 + 16 * 7 + 32 * 3 + 16 * 3 + 10
+decidingBytes = 8 * 10 + 16 * 7 + 32 * 3 + 16 * 3 + 8 * 3 + 10

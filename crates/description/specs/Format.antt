@@ -12,31 +12,36 @@ use Rattle.description.specs.declared.workflow.Kind.the-variants.{Datum,
 use Rattle.description.specs.declared.workflow.Pin.{Pin}
 use Rattle.description.specs.declared.workflow.Pin.the-variants.{Free, To}
 use Rattle.description.specs.declared.workflow.Edge.{Edge}
+use Rattle.description.specs.declared.workflow.Pair.{Pair}
 use Rattle.description.specs.declared.workflow.Way.{Way}
 use Rattle.description.specs.declared.workflow.Way.the-variants.{Reads, Writes}
 use Rattle.sequences.specs.Lists.{any}
 use Rattle.sequences.specs.Results.{Result, ok, refused, andThen}
 
--- What a description declares. Clouds, blocks and edges stand in order of appearance: an element's number is its position. A
--- block carries its pin.
+-- What a description declares. Clouds, blocks, edges and pairs of data that must never meet stand in order of appearance: an element's
+-- number is its position. A block carries its pin.
 pub record Description : Type 0 where
   pub clouds : List Cloud
   pub blocks : List Block
   pub edges : List Edge
+  pub pairs : List Pair
 
 abbrev pub nothing : Description
-nothing = record { clouds = []; blocks = []; edges = [] }
+nothing = record { clouds = []; blocks = []; edges = []; pairs = [] }
 
 abbrev pub withCloud : Description → Cloud → Description
-withCloud d c = record { clouds = d .clouds ++ (c ∷ []); blocks = d .blocks; edges = d .edges }
+withCloud d c = record { clouds = d .clouds ++ (c ∷ []); blocks = d .blocks; edges = d .edges; pairs = d .pairs }
 
 abbrev pub withBlock : Description → Block → Description
-withBlock d b = record { clouds = d .clouds; blocks = d .blocks ++ (b ∷ []); edges = d .edges }
+withBlock d b = record { clouds = d .clouds; blocks = d .blocks ++ (b ∷ []); edges = d .edges; pairs = d .pairs }
 
 abbrev pub withEdge : Description → Edge → Description
-withEdge d e = record { clouds = d .clouds; blocks = d .blocks; edges = d .edges ++ (e ∷ []) }
+withEdge d e = record { clouds = d .clouds; blocks = d .blocks; edges = d .edges ++ (e ∷ []); pairs = d .pairs }
 
--- cloud k, block b and edge n, by number; what stands past the last is never declared
+abbrev pub withPair : Description → Pair → Description
+withPair d a = record { clouds = d .clouds; blocks = d .blocks; edges = d .edges; pairs = d .pairs ++ (a ∷ []) }
+
+-- cloud k, block b, edge n and pair n, by number; what stands past the last is never declared
 abbrev pub noCloud : Cloud
 noCloud = record { level = 0; storage = 0; inward = 0; outward = 0; cpu = 0 }
 
@@ -45,6 +50,9 @@ noBlock = record { level = 0; kind = Datum 0 0; pin = Free }
 
 abbrev pub noEdge : Edge
 noEdge = record { way = Reads; service = 0; datum = 0 }
+
+abbrev pub noPair : Pair
+noPair = record { left = 0; right = 0 }
 
 abbrev pub cloud : Description → ℕ → Cloud
 cloud d k = getD (d .clouds) k noCloud
@@ -55,12 +63,15 @@ block d b = getD (d .blocks) b noBlock
 abbrev pub edge : Description → ℕ → Edge
 edge d n = getD (d .edges) n noEdge
 
+abbrev pub pair : Description → ℕ → Pair
+pair d n = getD (d .pairs) n noPair
+
 -- the block with a pin to cloud k
 abbrev pub pinned : Block → ℕ → Block
 pinned b k = record { level = b .level; kind = b .kind; pin = To k }
 
 abbrev pub withPin : Description → ℕ → ℕ → Description
-withPin d b k = record { clouds = d .clouds; blocks = set (d .blocks) b (pinned (block d b) k); edges = d .edges }
+withPin d b k = record { clouds = d .clouds; blocks = set (d .blocks) b (pinned (block d b) k); edges = d .edges; pairs = d .pairs }
 
 -- kinds, pins and ways, as tests
 abbrev pub isDatum : Kind → Bool
@@ -102,6 +113,13 @@ writeOneDatum e f = isWrite (e .way) && isWrite (f .way) && eqb (e .datum) (f .d
 -- the edge can't be declared after f: it repeats f, or is a second writer of its datum
 abbrev pub clash : Edge → Edge → Bool
 clash e f = sameEdge e f || writeOneDatum e f
+
+-- x and y are the data of the pair, in this order; two pairs have the same data, in either order
+abbrev pub namedBy : Pair → (x y : ℕ) → Bool
+namedBy a x y = eqb x (a .left) && eqb y (a .right)
+
+unfoldable pub samePair : Pair → Pair → Bool
+samePair a b = namedBy b (a .left) (a .right) || namedBy b (a .right) (a .left)
 
 -- numbers in bytes, most significant first, i bytes into the command
 abbrev pub u8At : List ℕ → ℕ → ℕ
@@ -178,6 +196,20 @@ pinAt s d = record {
   after = withPin d (u8At s 1) (u8At s 2);
 }
 
+-- 07: datum 1, datum 1. At most 8 pairs.
+abbrev pub pairIn : List ℕ → Pair
+pairIn s = record { left = u8At s 1; right = u8At s 2 }
+
+abbrev pub pairAt : List ℕ → Description → Command
+pairAt s d = record {
+  width = 3;
+  faults =
+      (4, leb 8 (length (d .pairs))) ∷
+      (6, not (namesDatum d (u8At s 1) && namesDatum d (u8At s 2))) ∷
+      (7, eqb (u8At s 1) (u8At s 2) || any (samePair (pairIn s)) (d .pairs)) ∷ [];
+  after = withPair d (pairIn s);
+}
+
 abbrev pub unknown : Description → Command
 unknown d = record { width = 1; faults = (2, true) ∷ []; after = d }
 
@@ -190,7 +222,8 @@ commandAt s d =
     (cond (eqb (u8At s 0) 4) (edgeAt Reads s d)
     (cond (eqb (u8At s 0) 5) (edgeAt Writes s d)
     (cond (eqb (u8At s 0) 6) (pinAt s d)
-    (unknown d))))))
+    (cond (eqb (u8At s 0) 7) (pairAt s d)
+    (unknown d)))))))
 
 abbrev pub firstFault : List (ℕ × Bool) → Option ℕ
 firstFault [] = none

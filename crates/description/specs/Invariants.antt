@@ -8,13 +8,14 @@ use Rattle.description.specs.declared.workflow.Kind.{Kind}
 use Rattle.description.specs.declared.workflow.Kind.the-variants.{Datum, Service}
 use Rattle.description.specs.declared.workflow.Pin.{Pin}
 use Rattle.description.specs.declared.workflow.Pin.the-variants.{Free, To}
-use Rattle.description.specs.Format.{Description, cloud, block, edge, namesService, namesDatum, isWrite, sameEdge}
+use Rattle.description.specs.Format.{Description, cloud, block, edge, pair, namesService, namesDatum, isWrite, sameEdge}
 
--- at most 8 clouds, 16 blocks, 32 edges
+-- at most 8 clouds, 16 blocks, 32 edges, 8 pairs
 pub record Limits (d : Description) : Type 0 where
   pub clouds : length (d .clouds) ≤ 8
   pub blocks : length (d .blocks) ≤ 16
   pub edges : length (d .edges) ≤ 32
+  pub pairs : length (d .pairs) ≤ 8
 
 -- a service's clearance is at most 15
 abbrev pub lowClearance : Kind → Type 0
@@ -44,6 +45,9 @@ pub record WellFormed (d : Description) : Type 0 where
   pub distinct : (n m : ℕ) → n < length (d .edges) → m < length (d .edges) → sameEdge (edge d n) (edge d m) ≡ true → n ≡ m
   pub oneWriter : (n m : ℕ) → n < length (d .edges) → m < length (d .edges)
       → isWrite (edge d n .way) ≡ true → isWrite (edge d m .way) ≡ true → edge d n .datum ≡ edge d m .datum → n ≡ m
+  -- every pair names two declared data
+  pub pairLeft : (n : ℕ) → n < length (d .pairs) → namesDatum d (pair d n .left) ≡ true
+  pub pairRight : (n : ℕ) → n < length (d .pairs) → namesDatum d (pair d n .right) ≡ true
 
 -- the four rates of a cloud are numbers of two bytes
 pub record RatesFit (c : Cloud) : Type 0 where

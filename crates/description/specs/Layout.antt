@@ -1,4 +1,4 @@
--- The words that a description is kept in: records of five numbers, one for each cloud, block and edge, and one with the counts.
+-- The words that a description is kept in: records of five numbers, one for each cloud, block, edge and pair, and one with the counts.
 use Prim.Native.Nat.{ℕ, _+_, _-_, _*_, _%_}
 use mathlib.Core.Bool.{cond}
 use mathlib.Core.List.{List, map}
@@ -13,10 +13,11 @@ use Rattle.description.specs.declared.workflow.Kind.the-variants.{Datum,
 use Rattle.description.specs.declared.workflow.Pin.{Pin}
 use Rattle.description.specs.declared.workflow.Pin.the-variants.{Free, To}
 use Rattle.description.specs.declared.workflow.Edge.{Edge}
+use Rattle.description.specs.declared.workflow.Pair.{Pair}
 use Rattle.description.specs.declared.workflow.Way.{Way}
 use Rattle.description.specs.declared.workflow.Way.the-variants.{Reads, Writes}
 
--- Where each part begins, in records: as many for clouds, blocks and edges as the format allows, and one for the counts.
+-- Where each part begins, in records: as many for clouds, blocks, edges and pairs as the format allows, and one for the counts.
 abbrev pub mostClouds : ℕ
 mostClouds = 8
 
@@ -25,6 +26,9 @@ mostBlocks = 16
 
 abbrev pub mostEdges : ℕ
 mostEdges = 32
+
+abbrev pub mostPairs : ℕ
+mostPairs = 8
 
 abbrev pub firstCloud : ℕ
 firstCloud = 0
@@ -35,8 +39,11 @@ firstBlock = firstCloud + mostClouds
 abbrev pub firstEdge : ℕ
 firstEdge = firstBlock + mostBlocks
 
+abbrev pub firstPair : ℕ
+firstPair = firstEdge + mostEdges
+
 abbrev pub counts : ℕ
-counts = firstEdge + mostEdges
+counts = firstPair + mostPairs
 
 -- how many records there are, and how many words that is
 abbrev pub records : ℕ
@@ -57,7 +64,7 @@ putRecord w r x = set (set (set (set (set w (r * 5) (x .a)) (r * 5 + 1) (x .b)) 
 unfoldable pub part : {A : Type 0} → (Record → A) → (start many : ℕ) → List ℕ → List A
 part f start many w = map (λ r. f (recordAt w r)) (from start many)
 
--- A record as a cloud, a block or an edge. What does not fit into a field is cut off, so that every record is one.
+-- A record as a cloud, a block, an edge or a pair. What does not fit into a field is cut off, so that every record is one.
 abbrev pub toCloud : Record → Cloud
 toCloud x = record { level = x .a % 256; storage = x .b % 65536; inward = x .c % 65536; outward = x .d % 65536; cpu = x .e % 65536 }
 
@@ -76,3 +83,6 @@ toWay n = cond (eqb n 0) Reads Writes
 
 abbrev pub toEdge : Record → Edge
 toEdge x = record { way = toWay (x .a); service = x .b % 256; datum = x .c % 256 }
+
+abbrev pub toPair : Record → Pair
+toPair x = record { left = x .a % 256; right = x .b % 256 }

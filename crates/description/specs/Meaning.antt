@@ -8,8 +8,9 @@ use Rattle.description.specs.declared.words.Record.{Record}
 use Rattle.description.specs.declared.workflow.Cloud.{Cloud}
 use Rattle.description.specs.declared.workflow.Block.{Block}
 use Rattle.description.specs.declared.workflow.Edge.{Edge}
-use Rattle.description.specs.Layout.{mostClouds, mostBlocks, mostEdges, firstCloud, firstBlock, firstEdge, counts, wordCount}
-use Rattle.description.specs.Layout.{recordAt, part, toCloud, toBlock, toEdge}
+use Rattle.description.specs.declared.workflow.Pair.{Pair}
+use Rattle.description.specs.Layout.{mostClouds, mostBlocks, mostEdges, mostPairs, firstCloud, firstBlock, firstEdge, firstPair, counts}
+use Rattle.description.specs.Layout.{wordCount, recordAt, part, toCloud, toBlock, toEdge, toPair}
 use Rattle.description.specs.declared.workflow.Outcome.{Outcome}
 use Rattle.description.specs.declared.workflow.Outcome.the-variants.{Accepted, Refused}
 use Rattle.description.specs.declared.decode.Checked.{Checked}
@@ -19,14 +20,14 @@ use Rattle.description.specs.Format.{Description, Command, faultOf}
 use Rattle.sequences.specs.Results.{Result, ok, refused}
 
 -- of each as many as the record of counts says
-abbrev pub counted : Record → List Cloud → List Block → List Edge → Description
-counted n cs bs es = record { clouds = take (n .a) cs; blocks = take (n .b) bs; edges = take (n .c) es }
+abbrev pub counted : Record → List Cloud → List Block → List Edge → List Pair → Description
+counted n cs bs es ps = record { clouds = take (n .a) cs; blocks = take (n .b) bs; edges = take (n .c) es; pairs = take (n .d) ps }
 
 -- the description that words hold
 unfoldable pub describes : List ℕ → Description
 describes w =
     counted (recordAt w counts) (part toCloud firstCloud mostClouds w) (part toBlock firstBlock mostBlocks w)
-    (part toEdge firstEdge mostEdges w)
+    (part toEdge firstEdge mostEdges w) (part toPair firstPair mostPairs w)
 
 -- the answer enum's cases, with the number and place of a refusal
 abbrev pub outcomeOf : {A : Type 0} → Outcome → A → Result A

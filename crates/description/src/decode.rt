@@ -5,13 +5,14 @@ ghost use mathlib.Core.Bool.{cond};
 ghost use lib.Dec.{eqb};
 ghost use lib.ListN.{length};
 ghost use Rattle.sequences.specs.Lists.{any};
-ghost use Rattle.description.specs.Format.{isDatum, isWrite, isPinned, namesDatum, namesService, clash};
-ghost use Rattle.description.specs.Format.{u16At, u32At, cloudAt, datumAt, serviceAt, edgeAt, pinAt, commandAt};
+ghost use Rattle.description.specs.Format.{isDatum, isWrite, isPinned, namesDatum, namesService, clash, namedBy, samePair};
+ghost use Rattle.description.specs.Format.{u8At, u16At, u32At, cloudAt, datumAt, serviceAt, edgeAt, pinAt, pairAt, commandAt};
 ghost use Rattle.description.specs.Format.{readFrom, nothing, decode};
 ghost use Rattle.description.specs.Meaning.{describes, outcomeOf, Cleared, Steps};
 use crate::words::MOST_BLOCKS;
 use crate::words::MOST_CLOUDS;
 use crate::words::MOST_EDGES;
+use crate::words::MOST_PAIRS;
 use crate::words::Words;
 use crate::words::clear;
 use crate::workflow::Block;
@@ -19,6 +20,7 @@ use crate::workflow::Cloud;
 use crate::workflow::Edge;
 use crate::workflow::Kind;
 use crate::workflow::Outcome;
+use crate::workflow::Pair;
 use crate::workflow::Pin;
 use crate::workflow::Refusal;
 use crate::workflow::Way;
@@ -28,9 +30,12 @@ use crate::workflow::block_count;
 use crate::workflow::cloud_count;
 use crate::workflow::edge_at;
 use crate::workflow::edge_count;
+use crate::workflow::pair_at;
+use crate::workflow::pair_count;
 use crate::workflow::put_block;
 use crate::workflow::put_cloud;
 use crate::workflow::put_edge;
+use crate::workflow::put_pair;
 use crate::workflow::put_pin;
 use sequences::wide;
 
@@ -44,7 +49,7 @@ const UNKNOWN_COMMAND: u8 = 2;
 // A byte stands behind 00.
 const AFTER_THE_END: u8 = 3;
 
-// A cloud, a block or an edge too many.
+// A cloud, a block, an edge or a pair too many.
 const TOO_MANY: u8 = 4;
 
 // A level, a location or a clearance too high.
@@ -53,7 +58,7 @@ const OUT_OF_RANGE: u8 = 5;
 // A name that nothing has, or nothing of that kind.
 const UNDECLARED: u8 = 6;
 
-// A repeated edge, a second writer or a second pin.
+// A repeated edge, a second writer, a second pin, a repeated pair or one datum twice.
 const CLASHING: u8 = 7;
 
 // No cloud, or no block.
@@ -74,6 +79,8 @@ const WRITES_COMMAND: u8 = 5;
 
 const PIN_COMMAND: u8 = 6;
 
+const PAIR_COMMAND: u8 = 7;
+
 // How many bytes each command has.
 const CLOUD_WIDTH: usize = 10;
 
@@ -84,6 +91,8 @@ const SERVICE_WIDTH: usize = 7;
 const EDGE_WIDTH: usize = 3;
 
 const PIN_WIDTH: usize = 3;
+
+const PAIR_WIDTH: usize = 3;
 
 // Levels, locations and clearances go up to it.
 const HIGHEST_LEVEL: u8 = 15;
@@ -195,6 +204,40 @@ fn clashes_with_any(w: &Words, e: Edge) -> bool
     let mut i = 0;
     while i < n {
         if clashes(e, edge_at(w, i)) {
+            return true;
+        }
+        i += 1;
+    }
+    false
+}
+
+// The pair has the data x and y, in this order.
+fn named_by(a: Pair, x: u8, y: u8) -> bool
+    ensures { λ r. ⌜ r ≡ namedBy a x y ⌝ }
+{
+    if x != a.left {
+        return false;
+    }
+    y == a.right
+}
+
+// Two pairs have the same data, in either order.
+fn same_pair(a: Pair, b: Pair) -> bool
+    ensures { λ r. ⌜ r ≡ samePair a b ⌝ }
+{
+    if named_by(b, a.left, a.right) {
+        return true;
+    }
+    named_by(b, a.right, a.left)
+}
+
+fn repeats_any(w: &Words, a: Pair) -> bool
+    ensures { λ r. ⌜ r ≡ any (samePair a) (describes (now (w .entry)) .pairs) ⌝ }
+{
+    let n = pair_count(w);
+    let mut i = 0;
+    while i < n {
+        if same_pair(a, pair_at(w, i)) {
             return true;
         }
         i += 1;
@@ -346,6 +389,34 @@ fn pin_step(s: &[u8], w: &mut Words) -> Step
     taken(PIN_WIDTH)
 }
 
+fn pair_step(s: &[u8], w: &mut Words) -> Step
+    ensures { λ r. ⌜ Steps (now (s .entry)) (pairAt (now (s .entry)) (describes (now (w .entry)))) (describes (now (w .exit))) r ⌝ }
+{
+    if s.len() < PAIR_WIDTH {
+        return faulty(CUT_SHORT, PAIR_WIDTH);
+    }
+    if MOST_PAIRS <= pair_count(w) {
+        return faulty(TOO_MANY, PAIR_WIDTH);
+    }
+    let left = s[1];
+    let right = s[2];
+    if !names_datum(w, wide(left)) {
+        return faulty(UNDECLARED, PAIR_WIDTH);
+    }
+    if !names_datum(w, wide(right)) {
+        return faulty(UNDECLARED, PAIR_WIDTH);
+    }
+    if left == right {
+        return faulty(CLASHING, PAIR_WIDTH);
+    }
+    let a = Pair { left, right };
+    if repeats_any(w, a) {
+        return faulty(CLASHING, PAIR_WIDTH);
+    }
+    put_pair(w, a);
+    taken(PAIR_WIDTH)
+}
+
 // What an edge does, by its command byte: 04 reads, 05 writes.
 fn way_of(c: u8) -> Way
     ensures { λ r. ⌜ r ≡ cond (eqb c 4) Way.Reads Way.Writes ⌝ }
@@ -356,10 +427,10 @@ fn way_of(c: u8) -> Way
     Way::Writes
 }
 
-// The command that s begins with, which is not 00. Edges have one call: where there were two, it was not compiled in place, and what it
-// answers went through memory.
-fn command_step(s: &[u8], w: &mut Words) -> Step
+// A command whose byte is below those of edges: a cloud, a datum, a service, or none that is known.
+fn earlier_step(s: &[u8], w: &mut Words) -> Step
     requires { ⌜ 0 < length (now s) ⌝ }
+    requires { ⌜ u8At (now s) 0 < 4 ⌝ }
     ensures { λ r. ⌜ Steps (now (s .entry)) (commandAt (now (s .entry)) (describes (now (w .entry)))) (describes (now (w .exit))) r ⌝ }
 {
     let c = s[0];
@@ -372,14 +443,37 @@ fn command_step(s: &[u8], w: &mut Words) -> Step
     if c == SERVICE_COMMAND {
         return service_step(s, w);
     }
+    faulty(UNKNOWN_COMMAND, 1)
+}
+
+// One whose byte is above them: a pin, a pair, or none that is known.
+fn later_step(s: &[u8], w: &mut Words) -> Step
+    requires { ⌜ 0 < length (now s) ⌝ }
+    requires { ⌜ 5 < u8At (now s) 0 ⌝ }
+    ensures { λ r. ⌜ Steps (now (s .entry)) (commandAt (now (s .entry)) (describes (now (w .entry)))) (describes (now (w .exit))) r ⌝ }
+{
+    let c = s[0];
     if c == PIN_COMMAND {
         return pin_step(s, w);
     }
+    if c == PAIR_COMMAND {
+        return pair_step(s, w);
+    }
+    faulty(UNKNOWN_COMMAND, 1)
+}
+
+// The command that s begins with, which is not 00. Most are edges, which two tests tell from all others. They have one call: where there
+// were two, it was not compiled in place, and what it answers went through memory.
+fn command_step(s: &[u8], w: &mut Words) -> Step
+    requires { ⌜ 0 < length (now s) ⌝ }
+    ensures { λ r. ⌜ Steps (now (s .entry)) (commandAt (now (s .entry)) (describes (now (w .entry)))) (describes (now (w .exit))) r ⌝ }
+{
+    let c = s[0];
     if c < READS_COMMAND {
-        return faulty(UNKNOWN_COMMAND, 1);
+        return earlier_step(s, w);
     }
     if WRITES_COMMAND < c {
-        return faulty(UNKNOWN_COMMAND, 1);
+        return later_step(s, w);
     }
     edge_step(way_of(c), s, w)
 }

@@ -1,4 +1,5 @@
-// The words that a caller lends for a description: records of five numbers, one for each cloud, block and edge, and one with the counts.
+// The words that a caller lends for a description: records of five numbers, one for each cloud, block, edge and pair, and one with the
+// counts.
 ghost use mathlib.Core.Path.{_≡_};
 ghost use Prim.Native.Nat.{_<_};
 ghost use lib.ListN.{length, replicate};
@@ -11,6 +12,8 @@ pub const MOST_BLOCKS: usize = 16;
 
 pub const MOST_EDGES: usize = 32;
 
+pub const MOST_PAIRS: usize = 8;
+
 // Where each part begins, in records, and how many records and words there are.
 pub const CLOUDS: usize = 0;
 
@@ -18,7 +21,9 @@ pub const BLOCKS: usize = CLOUDS + MOST_CLOUDS;
 
 pub const EDGES: usize = BLOCKS + MOST_BLOCKS;
 
-pub const COUNTS: usize = EDGES + MOST_EDGES;
+pub const PAIRS: usize = EDGES + MOST_EDGES;
+
+pub const COUNTS: usize = PAIRS + MOST_PAIRS;
 
 pub const RECORDS: usize = COUNTS + 1;
 

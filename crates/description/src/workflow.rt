@@ -1,9 +1,9 @@
-// What a description declares: clouds, blocks and edges, each a record of the words that the caller lends.
+// What a description declares: clouds, blocks, edges and pairs, each a record of the words that the caller lends.
 ghost use mathlib.Core.Path.{_≡_};
 ghost use Prim.Native.Nat.{_<_, _≤_, _%_, min};
 ghost use lib.ListN.{length};
-ghost use Rattle.description.specs.Format.{cloud, block, edge, nothing, withCloud, withBlock, withEdge, withPin};
-ghost use Rattle.description.specs.Layout.{toCloud, toKind, toPin, toBlock, toWay, toEdge};
+ghost use Rattle.description.specs.Format.{cloud, block, edge, pair, nothing, withCloud, withBlock, withEdge, withPin, withPair};
+ghost use Rattle.description.specs.Layout.{toCloud, toKind, toPin, toBlock, toWay, toEdge, toPair};
 ghost use Rattle.description.specs.Meaning.{describes};
 use crate::words::BLOCKS;
 use crate::words::CLOUDS;
@@ -12,6 +12,8 @@ use crate::words::EDGES;
 use crate::words::MOST_BLOCKS;
 use crate::words::MOST_CLOUDS;
 use crate::words::MOST_EDGES;
+use crate::words::MOST_PAIRS;
+use crate::words::PAIRS;
 use crate::words::Record;
 use crate::words::Words;
 use crate::words::put_record;
@@ -53,6 +55,12 @@ pub struct Edge {
     pub way: Way,
     pub service: u8,
     pub datum: u8,
+}
+
+// Two data that no cloud may hold together: in placement's words, an anti-affinity.
+pub struct Pair {
+    pub left: u8,
+    pub right: u8,
 }
 
 // The number and the place of what is refused.
@@ -133,6 +141,15 @@ fn to_edge(x: Record) -> Edge
     }
 }
 
+fn to_pair(x: Record) -> Pair
+    ensures { λ r. ⌜ r ≡ toPair x ⌝ }
+{
+    Pair {
+        left: (x.a % 256) as u8,
+        right: (x.b % 256) as u8,
+    }
+}
+
 fn cloud_record(c: Cloud) -> Record
     ensures { λ r. ⌜ toCloud r ≡ c ⌝ }
 {
@@ -201,6 +218,18 @@ fn edge_record(e: Edge) -> Record
     }
 }
 
+fn pair_record(a: Pair) -> Record
+    ensures { λ r. ⌜ toPair r ≡ a ⌝ }
+{
+    Record {
+        a: a.left as u32,
+        b: a.right as u32,
+        c: 0,
+        d: 0,
+        e: 0,
+    }
+}
+
 // ---- the words
 
 // Nothing is declared yet.
@@ -227,7 +256,7 @@ fn at_most(n: u32, most: usize) -> usize
     if n < most { n } else { most }
 }
 
-// How many clouds, blocks and edges are declared.
+// How many clouds, blocks, edges and pairs are declared.
 pub fn cloud_count(w: &Words) -> usize
     ensures { λ r. ⌜ r ≡ length (describes (now (w .entry)) .clouds) ⌝ }
     ensures { λ r. ⌜ r ≤ 8 ⌝ }
@@ -252,7 +281,15 @@ pub fn edge_count(w: &Words) -> usize
     at_most(counts.c, MOST_EDGES)
 }
 
-// A cloud, block or edge by its number. Past the last there is one with zeros in every field.
+pub fn pair_count(w: &Words) -> usize
+    ensures { λ r. ⌜ r ≡ length (describes (now (w .entry)) .pairs) ⌝ }
+    ensures { λ r. ⌜ r ≤ 8 ⌝ }
+{
+    let counts = record_at(w, COUNTS);
+    at_most(counts.d, MOST_PAIRS)
+}
+
+// A cloud, block, edge or pair by its number. Past the last there is one with zeros in every field.
 pub fn cloud_at(w: &Words, k: usize) -> Cloud
     ensures { λ r. ⌜ r ≡ cloud (describes (now (w .entry))) k ⌝ }
 {
@@ -297,7 +334,16 @@ pub fn edge_at(w: &Words, n: usize) -> Edge
     }
 }
 
-// One more cloud, block, edge or pin, where there is room for it.
+pub fn pair_at(w: &Words, n: usize) -> Pair
+    ensures { λ r. ⌜ r ≡ pair (describes (now (w .entry))) n ⌝ }
+{
+    if n < pair_count(w) {
+        return to_pair(record_at(w, PAIRS + n));
+    }
+    Pair { left: 0, right: 0 }
+}
+
+// One more cloud, block, edge, pair or pin, where there is room for it.
 pub fn put_cloud(w: &mut Words, c: Cloud)
     requires { ⌜ length (describes (now w) .clouds) < 8 ⌝ }
     ensures { λ _. ⌜ describes (now (w .exit)) ≡ withCloud (describes (now (w .entry))) c ⌝ }
@@ -328,6 +374,17 @@ pub fn put_edge(w: &mut Words, e: Edge)
     let mut counts = record_at(w, COUNTS);
     counts.c = n as u32 + 1;
     put_record(w, EDGES + n, edge_record(e));
+    put_record(w, COUNTS, counts);
+}
+
+pub fn put_pair(w: &mut Words, a: Pair)
+    requires { ⌜ length (describes (now w) .pairs) < 8 ⌝ }
+    ensures { λ _. ⌜ describes (now (w .exit)) ≡ withPair (describes (now (w .entry))) a ⌝ }
+{
+    let n = pair_count(w);
+    let mut counts = record_at(w, COUNTS);
+    counts.d = n as u32 + 1;
+    put_record(w, PAIRS + n, pair_record(a));
     put_record(w, COUNTS, counts);
 }
 

@@ -1,8 +1,8 @@
 -- The table of `specs/Reached.antt`, by computation.
 use mathlib.Core.Path.{refl}
-use Rattle.description.specs.Format.{decode}
+use Rattle.description.specs.Format.{samePair, decode}
 use Rattle.security.specs.Soundness.{covers, breaks2, breaks3, breaks4, mayStand, choicesOf, count, sound, read}
-use Rattle.security.specs.Placements.{moves, exposes, breaks16, breaks17, badPosition, judge}
+use Rattle.security.specs.Placements.{moves, exposes, breaks16, breaks17, copies, holds, holdsBoth, together, badPosition, judge}
 use Rattle.costs.specs.Transfers.{transfers}
 use Rattle.judging.specs.Calls.{readCall, judgeCall, transfersCall}
 use Rattle.judging.specs.Reached.{Reached}
@@ -10,18 +10,18 @@ use Rattle.judging.specs.Reached.{Reached}
 -- each number is reached
 pub reached : Reached
 unfolding
-    decode
+    samePair decode
     read sound breaks2 breaks3 breaks4 mayStand covers choicesOf count
-    judge badPosition breaks16 breaks17 exposes moves transfers
+    judge badPosition breaks16 breaks17 exposes moves together holdsBoth holds copies transfers
     readCall judgeCall transfersCall
 reached = record {
   number1 = (refl, refl);
   number2 = refl;
   number3 = refl;
-  number4 = (refl, refl, refl);
+  number4 = (refl, refl, refl, refl);
   number5 = (refl, refl, refl);
-  number6 = (refl, refl);
-  number7 = (refl, refl, refl);
+  number6 = (refl, refl, refl, refl);
+  number7 = (refl, refl, refl, refl, refl, refl);
   number8 = (refl, refl);
   number9 = refl;
   number10 = refl;
@@ -31,4 +31,5 @@ reached = record {
   number14 = refl;
   number15 = refl;
   number16 = refl;
+  number17 = (refl, refl, refl, refl, refl);
 }

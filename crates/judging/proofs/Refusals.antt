@@ -29,19 +29,19 @@ module _ (s : List ℕ) where
   read-wider : (numbers : ℕ) → 12 ≤ numbers → RefusalWithin numbers decidingBytes (read s)
   read-wider numbers h = within-more numbers decidingBytes h (omega arith) (read s) (read-within s)
 
-  pub judgeCall-within : (p : List ℕ) → RefusalWithin 15 decidingBytes (judgeCall s p)
+  pub judgeCall-within : (p : List ℕ) → RefusalWithin 17 decidingBytes (judgeCall s p)
   unfolding judgeCall
-  judgeCall-within p = within-andThen 15 decidingBytes (read s) (λ d. judge d p) (read-wider 15 (omega arith)) (λ d e. judged-within s d e p)
+  judgeCall-within p = within-andThen 17 decidingBytes (read s) (λ d. judge d p) (read-wider 17 (omega arith)) (λ d e. judged-within s d e p)
 
-  pub transfersCall-within : (p : List ℕ) (n : ℕ) → RefusalWithin 16 decidingBytes (transfersCall s p n)
+  pub transfersCall-within : (p : List ℕ) (n : ℕ) → RefusalWithin 17 decidingBytes (transfersCall s p n)
   unfolding transfersCall
   transfersCall-within p n =
-      within-andThen 16 decidingBytes (read s) (λ d. andThen (judge d p) (λ secure. fitted n (transfers d p))) (read-wider 16 (omega arith))
-      (λ d e. within-andThen 16 decidingBytes (judge d p) (λ secure. fitted n (transfers d p))
-      (within-more 16 decidingBytes (omega arith) (omega arith) (judge d p) (judged-within s d e p)) (λ secure _. short d e))
+      within-andThen 17 decidingBytes (read s) (λ d. andThen (judge d p) (λ secure. fitted n (transfers d p))) (read-wider 17 (omega arith))
+      (λ d e. within-andThen 17 decidingBytes (judge d p) (λ secure. fitted n (transfers d p))
+      (judged-within s d e p) (λ secure _. short d e))
     where
-      short : (d : Description) → read s ≡ ok d → RefusalWithin 16 decidingBytes (fitted n (transfers d p))
+      short : (d : Description) → read s ≡ ok d → RefusalWithin 17 decidingBytes (fitted n (transfers d p))
       short d e =
           let ts = transfers d p in
-          within-cond 16 decidingBytes (ltb n (length (bytesOf ts))) (refused 16 (length (bytesOf ts))) (ok ts)
+          within-cond 17 decidingBytes (ltb n (length (bytesOf ts))) (refused 16 (length (bytesOf ts))) (ok ts)
           (λ _. (omega arith, omega arith, omega (arith, transfers-room s d e p))) (λ _. tt)

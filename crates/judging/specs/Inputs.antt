@@ -1,6 +1,7 @@
 -- Small inputs for examples: the commands as bytes, and placements of a few blocks.
 use Prim.Native.Nat.{ℕ, zero, suc}
 use mathlib.Core.List.{List, [], _∷_, _++_}
+use lib.ListN.{take}
 
 -- the commands, with rates, sizes, longevities and cpu units 0
 abbrev pub cloud : (level : ℕ) → List ℕ
@@ -20,6 +21,9 @@ writes service datum = 5 ∷ service ∷ datum ∷ []
 
 abbrev pub pin : (block cloud : ℕ) → List ℕ
 pin block cloud = 6 ∷ block ∷ cloud ∷ []
+
+abbrev pub pair : (left right : ℕ) → List ℕ
+pair left right = 7 ∷ left ∷ right ∷ []
 
 abbrev pub end : List ℕ
 end = 0 ∷ []
@@ -52,3 +56,7 @@ m =
     0x04 ∷ 0x03 ∷ 0x02 ∷
     0x05 ∷ 0x03 ∷ 0x04 ∷
     0x00 ∷ []
+
+-- the same with data 0 and 4, the rushes and the finished film, never on one cloud: `examples/apart.bin`
+abbrev pub mApart : List ℕ
+mApart = take 64 m ++ pair 0 4 ++ end

@@ -3,7 +3,7 @@
 use Prim.Native.Nat.{ℕ}
 use mathlib.Core.Path.{_≡_}
 use mathlib.Core.List.{List, [], _∷_, _++_}
-use Rattle.judging.specs.Inputs.{cloud, datum, service, reads, writes, pin, end, times, flat, place}
+use Rattle.judging.specs.Inputs.{cloud, datum, service, reads, writes, pin, pair, end, times, flat, place}
 use Rattle.judging.specs.Calls.{readCall, judgeCall, transfersCall}
 use Rattle.sequences.specs.Results.{refused}
 
@@ -20,26 +20,46 @@ manyReads =
 abbrev pub twoLevels : List ℕ
 twoLevels = cloud 0 ++ cloud 1 ++ datum 1 ++ service 0 1
 
+-- five data, and eight pairs of them
+abbrev pub manyPairs : List ℕ
+manyPairs =
+    times 5 (datum 0) ++ pair 0 1 ++ pair 0 2 ++ pair 0 3 ++ pair 0 4 ++ pair 1 2 ++ pair 1 3 ++ pair 1 4 ++ pair 2 3
+
+-- three data on two clouds, of which the first must not meet the second, nor the second the third
+abbrev pub threeData : List ℕ
+threeData = times 2 (cloud 0) ++ times 3 (datum 0) ++ pair 0 1 ++ pair 1 2 ++ end
+
+-- two data on two clouds that must not meet, and a service that reads the first
+abbrev pub readAway : List ℕ
+readAway = times 2 (cloud 0) ++ datum 0 ++ datum 0 ++ service 0 0 ++ reads 2 0 ++ pair 0 1 ++ end
+
 pub record Reached : Type 0 where
   -- the input ends inside a command; without 00
   pub number1 : (readCall (cloud 0 ++ (2 ∷ [])) ≡ refused 1 10) × (readCall (cloud 0 ++ datum 0) ≡ refused 1 16)
   -- an unknown command
-  pub number2 : readCall (cloud 0 ++ (7 ∷ [])) ≡ refused 2 10
+  pub number2 : readCall (cloud 0 ++ (9 ∷ [])) ≡ refused 2 10
   -- a byte follows 00
   pub number3 : readCall (cloud 0 ++ datum 0 ++ end ++ end) ≡ refused 3 17
-  -- a ninth cloud; a seventeenth block; a thirty-third edge
-  pub number4 : (readCall (flat 0 9) ≡ refused 4 80) × (readCall (flat 17 0) ≡ refused 4 96) × (readCall manyReads ≡ refused 4 174)
+  -- a ninth cloud; a seventeenth block; a thirty-third edge; a ninth pair, though it repeats the first
+  pub number4 :
+      (readCall (flat 0 9) ≡ refused 4 80) × (readCall (flat 17 0) ≡ refused 4 96) × (readCall manyReads ≡ refused 4 174) ×
+      (readCall (manyPairs ++ pair 0 1 ++ end) ≡ refused 4 54)
   -- a level, a location, a clearance above 15
   pub number5 :
       (readCall (cloud 0 ++ cloud 16 ++ end) ≡ refused 5 10) × (readCall (service 16 0) ≡ refused 5 0) ×
       (readCall (service 0 16) ≡ refused 5 0)
-  -- a name undeclared; of the wrong kind
-  pub number6 : (readCall (cloud 0 ++ pin 0 0) ≡ refused 6 10) × (readCall (datum 0 ++ datum 0 ++ reads 0 1) ≡ refused 6 12)
-  -- an edge repeated; a second writer; a second pin
+  -- a name undeclared; of the wrong kind; a pair's second name undeclared; its first a service, before the same name twice
+  pub number6 :
+      (readCall (cloud 0 ++ pin 0 0) ≡ refused 6 10) × (readCall (datum 0 ++ datum 0 ++ reads 0 1) ≡ refused 6 12) ×
+      (readCall (datum 0 ++ pair 0 1) ≡ refused 6 6) × (readCall (service 0 0 ++ pair 0 0) ≡ refused 6 7)
+  -- an edge repeated; a second writer; a second pin; a pair of one datum; a pair repeated; in the other order
   pub number7 :
       (readCall (service 0 0 ++ datum 0 ++ reads 0 1 ++ reads 0 1) ≡ refused 7 16) ×
       (readCall (service 0 0 ++ service 0 0 ++ datum 0 ++ writes 0 2 ++ writes 1 2) ≡ refused 7 23) ×
-      (readCall (cloud 0 ++ datum 0 ++ pin 0 0 ++ pin 0 0) ≡ refused 7 19)
+      (readCall (cloud 0 ++ datum 0 ++ pin 0 0 ++ pin 0 0) ≡ refused 7 19) ×
+      (readCall (datum 0 ++ pair 0 0) ≡ refused 7 6) ×
+      (readCall (datum 0 ++ datum 0 ++ pair 0 1 ++ pair 0 1) ≡ refused 7 15) ×
+      (readCall (datum 0 ++ datum 0 ++ pair 0 1 ++ pair 1 0) ≡ refused 7 15)
   -- no cloud; no block
   pub number8 : (readCall (datum 0 ++ end) ≡ refused 8 7) × (readCall (cloud 0 ++ end) ≡ refused 8 11)
   -- rule 2, of block 1
@@ -62,3 +82,10 @@ pub record Reached : Type 0 where
   pub number15 : judgeCall (twoLevels ++ writes 1 0 ++ end) (place 1 0 0 0 0) ≡ refused 15 0
   -- a transfer needs 4 bytes, and the buffer has 3
   pub number16 : transfersCall (cloud 0 ++ cloud 0 ++ datum 0 ++ service 0 0 ++ reads 1 0 ++ end) (place 0 1 0 0 0) 3 ≡ refused 16 4
+  -- the second of two pairs; both, and the first is told; a copy that a read makes; 15 before it; 17 before the buffer is looked at
+  pub number17 :
+      (judgeCall threeData (place 0 1 1 0 0) ≡ refused 17 1) ×
+      (judgeCall threeData (place 0 0 0 0 0) ≡ refused 17 0) ×
+      (judgeCall readAway (place 0 1 1 0 0) ≡ refused 17 0) ×
+      (judgeCall (twoLevels ++ datum 0 ++ writes 1 0 ++ pair 0 2 ++ end) (place 1 0 0 0 0) ≡ refused 15 0) ×
+      (transfersCall readAway (place 0 1 1 0 0) 0 ≡ refused 17 0)

@@ -4,7 +4,7 @@ use mathlib.Core.Path.{_≡_, refl, ap}
 use Rattle.description.specs.Format.{Description, decode}
 use Rattle.judging.specs.Inputs.{flat}
 use Rattle.security.specs.Soundness.{covers, breaks2, breaks3, breaks4, mayStand, choicesOf, candidates, count, sound, read}
-use Rattle.security.specs.Placements.{moves, exposes, breaks16, breaks17, badPosition, judge}
+use Rattle.security.specs.Placements.{moves, exposes, breaks16, breaks17, brokenApart, badPosition, judge}
 use Rattle.costs.specs.Transfers.{transfers}
 use Rattle.costs.specs.Cost.{gigabytes, cost}
 use Rattle.options.specs.Options.{option, sameOption}
@@ -25,7 +25,7 @@ pub interview : Interview
 unfolding
     decode
     read sound breaks2 breaks3 breaks4 mayStand covers choicesOf count candidates
-    judge badPosition breaks16 breaks17 exposes moves
+    judge badPosition breaks16 breaks17 exposes moves brokenApart
     transfers cost gigabytes option sameOption
     readCall judgeCall censusCall drawCall
     securePlacements census stands rows draw

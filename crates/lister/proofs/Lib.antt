@@ -1,4 +1,5 @@
 pub mod Answering
+pub mod Apart
 pub mod Chained
 pub mod DrawsListEveryRow
 pub mod Interview

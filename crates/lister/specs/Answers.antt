@@ -10,7 +10,7 @@ use Rattle.lister.specs.declared.Counted.the-variants.{Counts, Refused a
 use Rattle.lister.specs.declared.Drawn.{Drawn}
 use Rattle.sequences.specs.Results.{Result, ok, refused}
 
--- Census: the five counts, or a refusal with its number and place
+-- Census: the six counts, or a refusal with its number and place
 abbrev pub censusAnswer : Counted → Result Census
 censusAnswer (Counts c) = ok (figuresOf c)
 censusAnswer (Uncounted r) = refused (r .number) (r .place)

@@ -72,7 +72,7 @@ pub record DrawsListEveryRow (s : List ℕ) (d : Description) : Type 0 where
   pub represented : (p : List ℕ) → SecurePlacement d p → (r : Row) × RowFor d p r
   -- the first answer is finished exactly when no placement is secure
   pub finished : (drawCall s atStart ≡ ok none) ↔ ((p : List ℕ) → SecurePlacement d p → ⊥)
-  -- Census answers these counts: as many options as there are rows, and the candidates parted in three
+  -- Census answers these counts: as many options as there are rows, and the candidates parted in four
   pub counted : censusCall s ≡ ok (census d)
   pub options : length (rows d) ≡ census d .options
-  pub parted : census d .candidates ≡ census d .breaking16 + census d .breaking17only + census d .secure
+  pub parted : census d .candidates ≡ census d .breaking16 + census d .breaking17only + census d .apartonly + census d .secure

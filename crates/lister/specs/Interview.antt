@@ -41,8 +41,8 @@ candidatesOf r = andThen r (λ d. ok (length (candidates d)))
 pub record Interview : Type 0 where
   -- M's rows
   pub case1 : andThen (read m) (λ d. ok (rows d)) ≡ ok rowsOfM
-  -- M's census, 16 = 8 + 0 + 8
-  pub case2 : censusCall m ≡ ok (record { candidates = 16; breaking16 = 8; breaking17only = 0; secure = 8; options = 6 })
+  -- M's census, 16 = 8 + 0 + 0 + 8
+  pub case2 : censusCall m ≡ ok (record { candidates = 16; breaking16 = 8; breaking17only = 0; apartonly = 0; secure = 8; options = 6 })
   -- two placements of M are secure, and one option
   pub case3 : (judgeCall m (place 1 1 0 0 0) ≡ ok tt) × (judgeCall m (place 1 1 1 0 0) ≡ ok tt) ×
       (andThen (read m) (λ d. ok (sameOption d (place 1 1 0 0 0) (place 1 1 1 0 0))) ≡ ok true)
@@ -53,7 +53,7 @@ pub record Interview : Type 0 where
   pub case6 : readCall end ≡ refused 8 1
   -- no candidates: accepted, nothing counted, and finished at the start
   pub case7 : (readCall homeless ≡ accepted 1 1 0) ×
-      (censusCall homeless ≡ ok (record { candidates = 0; breaking16 = 0; breaking17only = 0; secure = 0; options = 0 })) ×
+      (censusCall homeless ≡ ok (record { candidates = 0; breaking16 = 0; breaking17only = 0; apartonly = 0; secure = 0; options = 0 })) ×
       ((cost : ℕ) (placement : List ℕ) → drawCall homeless (record { start = true; cost = cost; placement = placement }) ≡ ok none)
   -- the gigabytes that sizes 0, 1, 10 and 11 are charged as
   pub case8 : map gigabytes (0 ∷ 1 ∷ 10 ∷ 11 ∷ []) ≡ 0 ∷ 1 ∷ 1 ∷ 2 ∷ []

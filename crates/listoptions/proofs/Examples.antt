@@ -1,8 +1,8 @@
 -- The examples of `specs/Printed.antt`: by computation from the bytes.
 use mathlib.Core.Path.{refl}
-use Rattle.description.specs.Format.{decode}
+use Rattle.description.specs.Format.{samePair, decode}
 use Rattle.security.specs.Soundness.{covers, breaks2, breaks3, breaks4, mayStand, choicesOf, candidates, count, sound, read}
-use Rattle.security.specs.Placements.{moves, exposes, breaks16, breaks17, badPosition, judge}
+use Rattle.security.specs.Placements.{moves, exposes, breaks16, breaks17, copies, holds, holdsBoth, together, brokenApart}
 use Rattle.costs.specs.Transfers.{transfers}
 use Rattle.costs.specs.Cost.{gigabytes, cost}
 use Rattle.options.specs.Options.{option, sameOption}
@@ -12,10 +12,10 @@ use Rattle.listoptions.specs.Printed.{printed, Examples}
 
 pub examples : Examples
 unfolding
-    printed decode
+    printed samePair decode
     read sound breaks2 breaks3 breaks4 mayStand covers choicesOf count candidates
-    judge badPosition breaks16 breaks17 exposes moves
+    breaks16 breaks17 exposes moves brokenApart together holdsBoth holds copies
     transfers cost gigabytes option sameOption
     securePlacements stands rows
     decimal digits
-examples = record { interview = refl; endAlone = refl; nothing = refl }
+examples = record { interview = refl; apart = refl; endAlone = refl; nothing = refl }

@@ -9,7 +9,7 @@ use Rattle.description.specs.Format.{Description}
 use Rattle.security.specs.Soundness.{read}
 use Rattle.survey.specs.declared.Row.{Row}
 use Rattle.survey.specs.Rows.{rows}
-use Rattle.judging.specs.Inputs.{m}
+use Rattle.judging.specs.Inputs.{m, mApart}
 use Rattle.list_text.specs.Lines.{ascii, rowLine, optionsLine, refusalLine}
 
 -- the lines of rows, one behind the other
@@ -25,9 +25,10 @@ printedFor (refused number place) = refusalLine number place
 unfoldable pub printed : List ℕ → List ℕ
 printed s = printedFor (read s)
 
--- worked examples: the interview file, the end alone, and no input at all
+-- worked examples: the interview file, the same with two data apart, the end alone, and no input at all
 pub record Examples : Type 0 where
   pub interview : printed m ≡ ascii "2820 11111 1320 0 1500\n2840 11110 1320 20 1500\n2920 11000 1320 100 1500\n" ++
       ascii "2940 11001 1320 120 1500\n3020 11011 1320 200 1500\n3040 11010 1320 220 1500\noptions 6\n"
+  pub apart : printed mApart ≡ ascii "2920 11000 1320 100 1500\noptions 1\n"
   pub endAlone : printed (0 ∷ []) ≡ ascii "refused 8 1\n"
   pub nothing : printed [] ≡ ascii "refused 1 0\n"

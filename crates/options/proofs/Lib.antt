@@ -1,5 +1,7 @@
+pub mod Conflicts
 pub mod Ends
 pub mod Exchanges
+pub mod Holding
 pub mod Locality
 pub mod Mixing
 pub mod Moving

@@ -1,24 +1,35 @@
--- Security goes edge by edge, and candidates go position by position. So a block-by-block mix of two secure candidates of one option is
--- a third.
+-- Rules 16 and 17 go edge by edge, candidates go position by position, and placements of one option break the same pairs. So a
+-- block-by-block mix of two secure candidates of one option is a third.
 use Prim.Native.Nat.{ℕ, _<_}
 use native.Mathlib.Omega.{arith}
-use mathlib.Core.Path.{_≡_, sym, _∙_}
+use mathlib.Core.Path.{_≡_, sym, ap, _∙_}
 use mathlib.Core.Logic.{_↔_, Iff·trans, inl, inr}
-use mathlib.Core.Bool.{true}
+use mathlib.Core.Bool.{true, not}
 use mathlib.Core.List.{List, List·Memᴰ}
 use lib.ListN.{length, getD}
 use Rattle.description.specs.Format.{Description, block}
 use Rattle.description.specs.Invariants.{WellFormed}
 use Rattle.security.specs.Soundness.{mayStand, candidates}
-use Rattle.security.specs.Placements.{secure}
+use Rattle.security.specs.Placements.{unexposed, brokenApart, secure}
 use Rattle.options.specs.Options.{sameOption}
 use Rattle.options.specs.Representatives.{SameServices, Mix, SecureCandidate}
 use Rattle.security.proofs.Candidates.{candidates-placed}
 use Rattle.security.proofs.Moves.{exposes-alike}
-use Rattle.security.proofs.SecureEdges.{secure-edges}
 use Rattle.security.proofs.Standing.{block-stands, may-stand}
+use Rattle.security.proofs.UnexposedEdges.{unexposed-edges}
+use Rattle.options.proofs.Holding.{option-broken}
 use Rattle.options.proofs.Options.{service-named, same-parts, same-services}
 use Rattle.options.proofs.Locality.{data-are, edge-service, edge-datum, part-local}
+use Rattle.sequences.proofs.Tests.{both-pass}
+
+-- a secure placement keeps rules 16 and 17
+pub secure-unexposed : (d : Description) (p : List ℕ) → secure d p ≡ true → unexposed d p ≡ true
+secure-unexposed d p safe = both-pass (unexposed d p) (not (brokenApart d p)) .0 safe .0
+
+-- what keeps them and is of the option of a secure placement is secure
+pub secure-as : (d : Description) → WellFormed d → (q p : List ℕ) → sameOption d q p ≡ true → unexposed d q ≡ true → secure d p ≡ true → secure d q ≡ true
+secure-as d w q p alike keeps safe = both-pass (unexposed d q) (not (brokenApart d q)) .1
+    (keeps, ap not (option-broken d w q p alike) ∙ both-pass (unexposed d p) (not (brokenApart d p)) .0 safe .1)
 
 -- ---- candidates, position by position
 
@@ -55,14 +66,14 @@ module _ (d : Description) (w : WellFormed d) where
     mix-candidate mp mq = candidates-stand r .1
         (mix .size, λ n h. mix-stands n h (candidates-stand p .0 mp .1 n h) (candidates-stand q .0 mq .1 n h))
 
-    -- where the services stand on the same clouds, a mix of secure placements is secure
-    pub mix-secure : SameServices d p q → secure d p ≡ true → secure d q ≡ true → secure d r ≡ true
-    mix-secure same sp sq = secure-edges d r .1 (λ e m.
+    -- where the services stand on the same clouds, a mix of placements that keep rules 16 and 17 keeps them
+    mix-unexposed : SameServices d p q → unexposed d p ≡ true → unexposed d q ≡ true → unexposed d r ≡ true
+    mix-unexposed same sp sq = unexposed-edges d r .1 (λ e m.
         let sr = mix-services same in
         let here = sr (e .service) (edge-service d w e m) in
         elim (mix .either (e .datum) (block-low (e .datum) (data-are d (e .datum) .0 (edge-datum d w e m) .0))) [
-          | inl at ↦ exposes-alike r p e (sym here) at d ∙ secure-edges d p .0 sp e m
-          | inr at ↦ exposes-alike r q e (sym here ∙ same (e .service) (edge-service d w e m)) at d ∙ secure-edges d q .0 sq e m
+          | inl at ↦ exposes-alike r p e (sym here) at d ∙ unexposed-edges d p .0 sp e m
+          | inr at ↦ exposes-alike r q e (sym here ∙ same (e .service) (edge-service d w e m)) at d ∙ unexposed-edges d q .0 sq e m
         ])
 
     -- a mix of placements of one option is of that option
@@ -80,7 +91,8 @@ module _ (d : Description) (w : WellFormed d) where
     mixed cp cq t = (
       record {
         candidate = mix-candidate (cp .candidate) (cq .candidate);
-        safe = mix-secure (same-services d p q t) (cp .safe) (cq .safe);
+        safe = secure-as d w r p (mix-same t)
+            (mix-unexposed (same-services d p q t) (secure-unexposed d p (cp .safe)) (secure-unexposed d q (cq .safe))) (cp .safe);
       },
       mix-same t,
     )

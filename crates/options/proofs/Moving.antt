@@ -1,5 +1,5 @@
--- One datum moved alone, to a cloud where it may stand: a secure candidate stays a secure candidate; it stays the same option if the
--- datum's part stays; and the cost changes by the datum's share.
+-- One datum moved alone, to a cloud where it may stand: if the datum's part stays, it is the same option, and a secure candidate stays a
+-- secure candidate; and the cost changes by the datum's share.
 use Prim.Native.Nat.{ℕ, _+_}
 use native.Mathlib.Decide.{ℕ-discrete}
 use native.Mathlib.Omega.{arith}
@@ -16,10 +16,10 @@ use Rattle.options.specs.Options.{partOf, sameOption}
 use Rattle.options.specs.Representatives.{dataOf, share, SameServices, SecureCandidate}
 use Rattle.security.specs.Statements.{Placed}
 use Rattle.security.proofs.Candidates.{candidates-placed}
-use Rattle.security.proofs.SecureEdges.{secure-covered}
+use Rattle.security.proofs.UnexposedEdges.{unexposed-covered}
 use Rattle.options.proofs.Options.{service-named, same-parts}
 use Rattle.options.proofs.Locality.{data-are, data-once, edge-service, part-local, share-local, cost-shares, cpu-local}
-use Rattle.options.proofs.Mixing.{candidates-stand, block-low}
+use Rattle.options.proofs.Mixing.{secure-unexposed, secure-as, candidates-stand, block-low}
 use Rattle.sequences.proofs.Grouping.{sum-but-one}
 
 module _ (d : Description) (w : WellFormed d) where
@@ -47,20 +47,23 @@ module _ (d : Description) (w : WellFormed d) where
       ],
     )
 
-    -- It is a secure candidate,
-    pub moved-secure : SecureCandidate d (set p n k)
-    moved-secure = record {
-      candidate = moved-candidate;
-      safe = secure-covered d w (set p n k) (placed (set p n k) moved-candidate) .1
-          (λ e m. rw (moved-services (e .service) (edge-service d w e m)) (secure-covered d w p (placed p (c .candidate)) .0 (c .safe) e m));
-    }
-
-    -- of the same option, if the datum's part stays,
+    -- It is of the same option, if the datum's part stays,
     pub moved-same : partOf d (set p n k) n ≡ partOf d p n → sameOption d (set p n k) p ≡ true
     moved-same e = same-parts d (set p n k) p .1 (λ m h. elim (ℕ-discrete m n) [
       | yes here ↦ rw here e
       | no other ↦ part-local d w (set p n k) p moved-services m (getD-set-other p n m k 0 other) (block d m .kind)
     ])
+
+    -- and then a secure candidate,
+    pub moved-secure : partOf d (set p n k) n ≡ partOf d p n → SecureCandidate d (set p n k)
+    moved-secure e = record {
+      candidate = moved-candidate;
+      safe = secure-as d w (set p n k) p (moved-same e)
+          (unexposed-covered d w (set p n k) (placed (set p n k) moved-candidate) .1
+          (λ f m. rw (moved-services (f .service) (edge-service d w f m))
+          (unexposed-covered d w p (placed p (c .candidate)) .0 (secure-unexposed d p (c .safe)) f m)))
+          (c .safe);
+    }
 
     -- at the cost of another share of this datum.
     pub moved-cost : cost d (set p n k) + share d p n ≡ cost d p + share d (set p n k) n

@@ -119,7 +119,7 @@ module _ (d : Description) (w : WellFormed d) where
       let change = moved-cost d w p cp n m k may in
       let size = candidates-stand d w p .0 (cp .candidate) .0 in
       let low = block-low d w n (data-are d n .0 m .0) in
-      first q (moved-secure d w p cp n m k may) (moved-same d w p cp n m k may part)
+      first q (moved-secure d w p cp n m k may part) (moved-same d w p cp n m k may part)
       (elim (pair-before (share d q n) k (share d p n) (getD p n 0) .0 lower) [
         | inl less ↦ before-lower (cost d q) (cost d p) q p (omega arith)
         | inr (equal, less) ↦ before-rest (cost d q) (cost d p) q p (omega arith) (set-before p n k (omega arith) less)

@@ -1,4 +1,4 @@
--- A status is taken apart again: no call refuses with a number above 16 or a place above `mostWords`.
+-- A status is taken apart again: no call refuses with a number above 17 or a place above `mostWords`.
 use Prim.Native.Nat.{ℕ, _≤_}
 use native.Mathlib.Omega.{arith}
 use mathlib.Core.Path.{refl}
@@ -15,20 +15,20 @@ use Rattle.whole_list.proofs.Refusals.{listCall-within}
 use Rattle.panel.specs.Statements.{Readable, NothingLost}
 
 module _ {A : Type 0} where
-  readable : (r : Result A) → RefusalWithin 16 mostWords r → Readable r
+  readable : (r : Result A) → RefusalWithin 17 mostWords r → Readable r
   readable (ok a) w = refl
   readable (refused number place) w = (omega arith, omega arith, omega arith)
 
-  sooner : (numbers : ℕ) → numbers ≤ 16 → (r : Result A) → RefusalWithin numbers decidingBytes r → Readable r
-  sooner numbers h r w = readable r (within-more 16 mostWords h (omega arith) r w)
+  sooner : (numbers places : ℕ) → numbers ≤ 17 → places ≤ mostWords → (r : Result A) → RefusalWithin numbers places r → Readable r
+  sooner numbers places h l r w = readable r (within-more 17 mostWords h l r w)
 
 -- OF A REFUSAL NOTHING IS LOST
 pub nothing-lost : (s : List ℕ) → Bytes s → NothingLost s
 nothing-lost s bytes = record {
-  read = sooner 12 (omega arith) (readCall s) (readCall-within s);
-  judge = λ p. sooner 15 (omega arith) (judgeCall s p) (judgeCall-within s p);
-  transfers = λ p room. sooner 16 (omega arith) (transfersCall s p room) (transfersCall-within s p room);
-  census = sooner 12 (omega arith) (censusCall s) (censusCall-within s);
-  draw = λ c. sooner 12 (omega arith) (drawCall s c) (drawCall-within s c);
-  list = λ room. readable (listCall s room) (listCall-within s room bytes);
+  read = sooner 12 decidingBytes (omega arith) (omega arith) (readCall s) (readCall-within s);
+  judge = λ p. sooner 17 decidingBytes (omega arith) (omega arith) (judgeCall s p) (judgeCall-within s p);
+  transfers = λ p room. sooner 17 decidingBytes (omega arith) (omega arith) (transfersCall s p room) (transfersCall-within s p room);
+  census = sooner 12 decidingBytes (omega arith) (omega arith) (censusCall s) (censusCall-within s);
+  draw = λ c. sooner 12 decidingBytes (omega arith) (omega arith) (drawCall s c) (drawCall-within s c);
+  list = λ room. sooner 16 mostWords (omega arith) (omega arith) (listCall s room) (listCall-within s room bytes);
 }

@@ -22,9 +22,9 @@ one n = n ∷ []
 abbrev pub transferCount : List Transfer → List ℕ
 transferCount ts = one (length ts)
 
--- Census: candidates, those that break rule 16, those that break rule 17 alone, secure ones, options
+-- Census: candidates, those that break rule 16, those that break rule 17 alone, those that break a pair alone, secure ones, options
 abbrev pub figures : Census → List ℕ
-figures c = c .candidates ∷ c .breaking16 ∷ c .breaking17only ∷ c .secure ∷ c .options ∷ []
+figures c = c .candidates ∷ c .breaking16 ∷ c .breaking17only ∷ c .apartonly ∷ c .secure ∷ c .options ∷ []
 
 -- Draw: 1, and the cost of a row with the three amounts of its bill; or zeros where there is none
 abbrev pub rowOrNone : Option Row → List ℕ

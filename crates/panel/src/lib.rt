@@ -82,7 +82,7 @@ fn put_count(answer: Transferred, count: &mut [u64; 1]) -> u64
     }
 }
 
-fn put_figures(answer: Counted, figures: &mut [u64; 5]) -> u64
+fn put_figures(answer: Counted, figures: &mut [u64; 6]) -> u64
     ensures { λ r. ⌜ r ≡ status (censusAnswer answer) ⌝ }
     ensures { λ _. ⌜ now (figures .exit) ≡ valuesAfter figureValues (censusAnswer answer) (now (figures .entry)) ⌝ }
 {
@@ -92,6 +92,7 @@ fn put_figures(answer: Counted, figures: &mut [u64; 5]) -> u64
                 c.candidates,
                 c.breaking16,
                 c.breaking17only,
+                c.apartonly,
                 c.secure,
                 c.options,
             ];
@@ -175,9 +176,9 @@ pub extern "C" fn panel_transfers(
     put_count(answer, count)
 }
 
-// Census: the five figures.
+// Census: the six figures.
 #[no_mangle]
-pub extern "C" fn panel_census(description: &[u8], figures: &mut [u64; 5]) -> u64
+pub extern "C" fn panel_census(description: &[u8], figures: &mut [u64; 6]) -> u64
     ensures { λ r. ⌜ r ≡ status (censusCall (now (description .entry))) ⌝ }
     ensures { λ _. ⌜ now (figures .exit) ≡ valuesAfter figureValues (censusCall (now (description .entry))) (now (figures .entry)) ⌝ }
 {

@@ -2,9 +2,12 @@ pub mod Accepted
 pub mod Candidates
 pub mod Choices
 pub mod Deciding
+pub mod HeldClouds
+pub mod Holding
 pub mod Judging
+pub mod Meeting
 pub mod Moves
 pub mod Refusals
-pub mod SecureEdges
 pub mod Sound
 pub mod Standing
+pub mod UnexposedEdges

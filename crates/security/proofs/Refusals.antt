@@ -1,4 +1,4 @@
--- Read refuses with numbers 1 to 12 and Judge with 1 to 15, and no place is above `decidingBytes`.
+-- Read refuses with numbers 1 to 12 and Judge with 1 to 17, and no place is above `decidingBytes`.
 use Prim.Native.Nat.{ℕ, _≤_}
 use native.Mathlib.Omega.{arith}
 use mathlib.Core.Path.{_≡_, sym}
@@ -17,7 +17,7 @@ use Rattle.description.specs.Invariants.{Limits}
 use Rattle.description.proofs.Limits.{decoded-wellFormed}
 use Rattle.description.proofs.Refusals.{decode-within}
 use Rattle.security.specs.Soundness.{breaks2, breaks3, breaks4, count, tooMany, positions, sound, read}
-use Rattle.security.specs.Placements.{badPosition, breaks16, breaks17, judge}
+use Rattle.security.specs.Placements.{badPosition, breaks16, breaks17, together, judge}
 use Rattle.security.proofs.Accepted.{read-wellFormed}
 
 -- the place of the first of so many
@@ -37,13 +37,14 @@ module _ (d : Description) (few : Limits d) where
       at-start true place e = let same : _≡_ {A = ℕ} 0 place = cc in omega arith
       at-start false place e = absurd (Option·some-ne-none place (sym e))
 
-  judge-within : (p : List ℕ) → RefusalWithin 15 decidingBytes (judge d p)
+  judge-within : (p : List ℕ) → RefusalWithin 17 decidingBytes (judge d p)
   unfolding judge
   judge-within p =
-      within-unless 15 decidingBytes (first (badPosition d p) positions) 13 _ (omega arith) (omega arith) (of-few (badPosition d p) positions (omega arith))
-      (within-unless 15 decidingBytes (first (breaks16 d p) (d .edges)) 14 _ (omega arith) (omega arith) (of-few (breaks16 d p) (d .edges) (few .edges))
-      (within-unless 15 decidingBytes (first (breaks17 d p) (d .edges)) 15 (ok tt) (omega arith) (omega arith)
-      (of-few (breaks17 d p) (d .edges) (few .edges)) tt))
+      within-unless 17 decidingBytes (first (badPosition d p) positions) 13 _ (omega arith) (omega arith) (of-few (badPosition d p) positions (omega arith))
+      (within-unless 17 decidingBytes (first (breaks16 d p) (d .edges)) 14 _ (omega arith) (omega arith) (of-few (breaks16 d p) (d .edges) (few .edges))
+      (within-unless 17 decidingBytes (first (breaks17 d p) (d .edges)) 15 _ (omega arith) (omega arith) (of-few (breaks17 d p) (d .edges) (few .edges))
+      (within-unless 17 decidingBytes (first (together d p) (d .pairs)) 17 (ok tt) (omega arith) (omega arith)
+      (of-few (together d p) (d .pairs) (omega (arith, few .pairs))) tt)))
 
 pub read-within : (s : List ℕ) → RefusalWithin 12 decidingBytes (read s)
 unfolding read
@@ -52,5 +53,5 @@ read-within s =
     (λ d e. sound-within d (decoded-wellFormed s d e .limits))
 
 -- what judges a placement of an accepted description
-pub judged-within : (s : List ℕ) (d : Description) → read s ≡ ok d → (p : List ℕ) → RefusalWithin 15 decidingBytes (judge d p)
+pub judged-within : (s : List ℕ) (d : Description) → read s ≡ ok d → (p : List ℕ) → RefusalWithin 17 decidingBytes (judge d p)
 judged-within s d a p = judge-within d (read-wellFormed s d a .limits) p

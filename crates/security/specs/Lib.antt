@@ -1,5 +1,6 @@
 pub mod Accepted
 pub mod Answers
+pub mod Conflicts
 pub mod Placements
 pub mod Soundness
 pub mod Statements

@@ -1,13 +1,15 @@
 -- What a placement must be, from the scope's rules themselves: plain orders and equations, and no test that the definitions use.
 use Prim.Native.Nat.{ℕ, _≤_, _<_}
 use mathlib.Core.Path.{_≡_}
+use mathlib.Core.Logic.{_⊎_}
 use mathlib.Core.List.{List}
 use lib.ListN.{length, getD}
 use Rattle.description.specs.declared.workflow.Pin.the-variants.{To}
 use Rattle.description.specs.declared.workflow.Way.{Way}
 use Rattle.description.specs.declared.workflow.Way.the-variants.{Reads, Writes}
 use Rattle.description.specs.declared.workflow.Edge.{Edge}
-use Rattle.description.specs.Format.{Description, block, edge}
+use Rattle.description.specs.declared.workflow.Pair.{Pair}
+use Rattle.description.specs.Format.{Description, block, edge, pair}
 use Rattle.security.specs.Soundness.{blockLevel, cloudLevel}
 use Rattle.security.specs.Placements.{serviceCloud, datumCloud}
 
@@ -47,8 +49,32 @@ pub record FirstBreaks (way : Way) (d : Description) (p : List ℕ) (n : ℕ) : 
   pub breaks : Breaks way d p (edge d n)
   pub earlier : (i : ℕ) → i < n → Keeps way d p (edge d i)
 
--- A secure placement: a candidate that keeps rules 16 and 17.
+-- Edge e puts a copy of datum n on cloud k: it is an edge of that datum, whose service stands on k, and the datum elsewhere.
+pub record Copies (p : List ℕ) (n k : ℕ) (e : Edge) : Type 0 where
+  pub of : e .datum ≡ n
+  pub moves : serviceCloud p e ≡ datumCloud p e → ⊥
+  pub there : serviceCloud p e ≡ k
+
+-- Cloud k holds datum n: the datum stands there, or an edge puts a copy there.
+abbrev pub Holds : Description → List ℕ → (n k : ℕ) → Type 0
+Holds d p n k = (getD p n 0 ≡ k) ⊎ ((i : ℕ) × (i < length (d .edges)) × Copies p n k (edge d i))
+
+-- a declared cloud holds both data of a pair
+abbrev pub Meet : Description → List ℕ → Pair → Type 0
+Meet d p a = (k : ℕ) × (k < length (d .clouds)) × Holds d p (a .left) k × Holds d p (a .right) k
+
+abbrev pub AllApart : Description → List ℕ → Type 0
+AllApart d p = (n : ℕ) → n < length (d .pairs) → Meet d p (pair d n) → ⊥
+
+-- pair n is the first whose data meet
+pub record FirstMeets (d : Description) (p : List ℕ) (n : ℕ) : Type 0 where
+  pub declared : n < length (d .pairs)
+  pub meet : Meet d p (pair d n)
+  pub earlier : (i : ℕ) → i < n → Meet d p (pair d i) → ⊥
+
+-- A secure placement: a candidate that keeps rules 16 and 17, and whose pairs never meet.
 pub record Secure (d : Description) (p : List ℕ) : Type 0 where
   pub placed : Placed d p
   pub rule16 : AllKeep Reads d p
   pub rule17 : AllKeep Writes d p
+  pub apart : AllApart d p

@@ -10,6 +10,7 @@ ghost use Rattle.security.specs.Placements.{moves, exposes, breaks16, br
 use crate::answers::Found;
 use crate::answers::Rule;
 use crate::answers::Verdict;
+use crate::apart::first_broken;
 use crate::soundness::breaks_rule3;
 use crate::soundness::breaks_rule4;
 use crate::soundness::covers;
@@ -30,6 +31,8 @@ const BAD_POSITION: u8 = 13;
 const RULE_16: u8 = 14;
 
 const RULE_17: u8 = 15;
+
+const BROKEN_PAIR: u8 = 17;
 
 // The cloud of block b; past the sixteenth position it is 0.
 pub fn cloud_of(placement: [u8; 16], b: usize) -> u8
@@ -131,7 +134,7 @@ fn unfit(number: u8, place: usize) -> Verdict
     Verdict::Refused(Refusal { number, place })
 }
 
-// Positions first, then rule 16 and then rule 17.
+// Positions first, then rule 16, then rule 17 and then the pairs.
 pub fn verdict(w: &Words, placement: [u8; 16]) -> Verdict
     ensures { λ r. ⌜ judgeAnswer r ≡ judge (describes (now (w .entry))) placement ⌝ }
 {
@@ -146,6 +149,10 @@ pub fn verdict(w: &Words, placement: [u8; 16]) -> Verdict
     let write = first_breaking(w, placement, Rule::Rule17);
     if let Found::At(n) = write {
         return unfit(RULE_17, n);
+    }
+    let pair = first_broken(w, placement);
+    if let Found::At(n) = pair {
+        return unfit(BROKEN_PAIR, n);
     }
     Verdict::Secure
 }

@@ -1,7 +1,7 @@
 -- Functions and tests on a list go by its elements: two that agree on each make the same list; a test that fails on each keeps
 -- nothing; one that passes at one position at most keeps at most one element.
-use Prim.Native.Nat.{ℕ, suc, _≤_, _<_, zero-le}
-use native.Mathlib.Nat.{zero-lt-suc, suc-inj, le-refl}
+use Prim.Native.Nat.{ℕ, zero, suc, _≤_, _<_, zero-le}
+use native.Mathlib.Nat.{zero-lt-suc, suc-inj, le-refl, not-suc-le-zero, le-of-suc-le-suc}
 use native.Mathlib.Omega.{arith}
 use mathlib.Core.Path.{_≡_, refl, sym, ap, ap₂}
 use mathlib.Core.Logic.{_↔_, inl, inr}
@@ -21,6 +21,12 @@ tests-agree false b h = sym (not-passed b (λ t. false≢true (h .1 t)))
 pub member-at : {A : Type 0} (default : A) {x : A} {xs : List A} → List·Memᴰ x xs → (i : ℕ) × (i < length xs) × (getD xs i default ≡ x)
 member-at default (List·Memᴰ·head e) = (0, zero-lt-suc _, sym e)
 member-at default (List·Memᴰ·tail m) = let (i, l, e) = member-at default m in (suc i, omega arith, e)
+
+-- and at a position there stands an element
+pub at-member : {A : Type 0} (default : A) (xs : List A) (i : ℕ) → i < length xs → List·Memᴰ (getD xs i default) xs
+at-member default [] i h = absurd (not-suc-le-zero h)
+at-member default (x ∷ xs) zero h = List·Memᴰ·head refl
+at-member default (x ∷ xs) (suc i) h = List·Memᴰ·tail (at-member default xs i (le-of-suc-le-suc h))
 
 -- functions that agree on the elements make one list, and only those do
 module _ {A B : Type 0} (f g : A → B) where

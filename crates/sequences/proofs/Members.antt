@@ -7,8 +7,10 @@ use mathlib.Core.Path.{_≡_, refl, sym, _∙_}
 use mathlib.Core.Logic.{_↔_, inl, inr}
 use mathlib.Core.Bool.{Bool, true, false, true≢false, false≢true}
 use mathlib.Core.List.{List, [], _∷_, map}
-use mathlib.Core.List.{List·Memᴰ, List·Memᴰ·head, List·Memᴰ·tail, List·Memᴰ·not-nil, List·Memᴰ·cases-cons}
+use mathlib.Core.List.{List·Memᴰ, List·Memᴰ·head, List·Memᴰ·tail, List·Memᴰ·not-nil, List·Memᴰ·cases-cons, Memᴰ·cast}
+use lib.Dec.{eqb}
 use lib.ListN.{length, getD}
+use borrow.Author.Tests.{eqb-true, eq-eqb}
 use Rattle.sequences.specs.Lists.{any, keep, from, below}
 use Rattle.sequences.proofs.Tests.{cond-ind, not-passed, not-failed, or-passes, or-fails}
 
@@ -47,6 +49,13 @@ module _ {A : Type 0} (test : A → Bool) where
   -- none does exactly where every element fails
   pub none-members : (xs : List A) → (any test xs ≡ false) ↔ ((x : A) → List·Memᴰ x xs → test x ≡ false)
   none-members xs = (λ f x m. any-none xs x m f, λ h. not-passed (any test xs) (λ e. let (x, m, t) = any-to xs e in true≢false (sym t ∙ h x m)))
+
+-- a number in a list is found by its equality test
+pub found-member : (n : ℕ) (l : List ℕ) → (any (eqb n) l ≡ true) ↔ List·Memᴰ n l
+found-member n l = (
+  λ t. let (x, m, e) = any-members (eqb n) l .0 t in Memᴰ·cast (eqb-true n x e) m,
+  λ m. any-members (eqb n) l .1 (n, m, eq-eqb n n refl),
+)
 
 from-to : (k n x : ℕ) → List·Memᴰ x (from k n) → (k ≤ x) × (x < k + n)
 from-to k zero x m = absurd (List·Memᴰ·not-nil m)

@@ -1,11 +1,11 @@
--- A test parts a list in two, and two tests in three: how many each part has. Of two lists it keeps what it keeps of each.
+-- A test parts a list in two, two tests in three, and three in four: how many each part has. Of two lists it keeps what it keeps of each.
 use Prim.Native.Nat.{suc, _+_}
 use native.Mathlib.Omega.{arith}
-use mathlib.Core.Path.{_≡_, refl, ap}
-use mathlib.Core.Bool.{Bool, true, false, not, _&&_, cond}
+use mathlib.Core.Path.{_≡_, refl, sym, ap, _∙_}
+use mathlib.Core.Bool.{Bool, true, false, not, _&&_, _||_, cond, or-assoc}
 use mathlib.Core.List.{List, [], _∷_, _++_}
 use lib.ListN.{length}
-use Rattle.sequences.specs.Lists.{keep}
+use Rattle.sequences.specs.Lists.{any, keep}
 
 module _ {A : Type 0} where
   -- what a test keeps of two lists, one behind the other
@@ -17,6 +17,11 @@ module _ {A : Type 0} where
           → cond b (x ∷ keep t (xs ++ ys)) (keep t (xs ++ ys)) ≡ cond b (x ∷ keep t xs) (keep t xs) ++ keep t ys
       step true e = ap (λ l. x ∷ l) e
       step false e = e
+
+  -- one of two lists passes where one of the first or one of the second does
+  pub any-append : (t : A → Bool) (xs ys : List A) → any t (xs ++ ys) ≡ (any t xs || any t ys)
+  any-append t [] ys = refl
+  any-append t (x ∷ xs) ys = ap (λ b. t x || b) (any-append t xs ys) ∙ sym (or-assoc (t x) (any t xs) (any t ys))
 
   -- what a second test keeps of what the first kept is what passes both
   pub keep-both : (t u : A → Bool) (xs : List A) → keep u (keep t xs) ≡ keep (λ x. t x && u x) xs
@@ -49,4 +54,18 @@ module _ {A : Type 0} where
         two-parts u failing,
         ap length (keep-both (λ x. not (t x)) u xs),
         ap length (keep-both (λ x. not (t x)) (λ x. not (u x)) xs),
+      )
+
+  -- those that fail both, in two by a third test
+  pub four-parts : (t u v : A → Bool) (xs : List A)
+      → length xs ≡ length (keep t xs) + length (keep (λ x. not (t x) && u x) xs) +
+      length (keep (λ x. (not (t x) && not (u x)) && v x) xs) + length (keep (λ x. (not (t x) && not (u x)) && not (v x)) xs)
+  four-parts t u v xs =
+      let failing = keep (λ x. not (t x) && not (u x)) xs in
+      omega (
+        arith,
+        three-parts t u xs,
+        two-parts v failing,
+        ap length (keep-both (λ x. not (t x) && not (u x)) v xs),
+        ap length (keep-both (λ x. not (t x) && not (u x)) (λ x. not (v x)) xs),
       )

@@ -52,6 +52,11 @@ pub or-passes : (a b : Bool) → a || b ≡ true → (a ≡ true) ⊎ (b ≡ tru
 or-passes true b e = inl refl
 or-passes false b e = inr e
 
+-- one of two passes exactly where their `or` does
+pub one-passes : (a b : Bool) → (a || b ≡ true) ↔ ((a ≡ true) ⊎ (b ≡ true))
+one-passes true b = (or-passes true b, λ _. refl)
+one-passes false b = (or-passes false b, λ h. elim h [ inl f ↦ absurd (true≢false (sym f)) | inr t ↦ t ])
+
 -- no element passes: none at any position does
 pub any-fails : {A : Type 0} (t : A → Bool) (d : A) (l : List A) → any t l ≡ false → (i : ℕ) → i < length l → t (getD l i d) ≡ false
 any-fails t d [] e i h = absurd (not-suc-le-zero h)

@@ -8,7 +8,7 @@ use lib.ListN.{length, length-map}
 use Rattle.description.specs.Format.{Description}
 use Rattle.description.specs.Invariants.{WellFormed}
 use Rattle.security.specs.Soundness.{candidates, count}
-use Rattle.security.specs.Placements.{judge, broken16, broken17}
+use Rattle.security.specs.Placements.{judge, broken16, broken17, unexposed, brokenApart, secure}
 use Rattle.security.proofs.Candidates.{candidates-placed, count-is-length}
 use Rattle.security.proofs.Judging.{judge-number}
 use Rattle.options.proofs.Options.{sameOption-equivalence}
@@ -19,7 +19,7 @@ use Rattle.sequences.specs.Lists.{keep}
 use Rattle.sequences.specs.Results.{numberOf}
 use Rattle.sequences.proofs.Agreeing.{keep-agree}
 use Rattle.sequences.proofs.Distinct.{distinct-number}
-use Rattle.sequences.proofs.Parts.{three-parts}
+use Rattle.sequences.proofs.Parts.{four-parts}
 use Rattle.sequences.proofs.Sorting.{sort-length}
 
 -- ---- by Judge's answers
@@ -28,10 +28,14 @@ use Rattle.sequences.proofs.Sorting.{sort-length}
 abbrev judgedAs : Description → ℕ → ℕ
 judgedAs d n = length (keep (λ p. eqb (numberOf (judge d p)) n) (candidates d))
 
+-- Judge's number of a candidate by what it breaks
+abbrev numberBy : (a b c : Bool) → ℕ
+numberBy a b c = cond a 14 (cond b 15 (cond c 17 0))
+
 module _ (d : Description) (w : WellFormed d) where
   -- a test of candidates that goes with Judge's number
-  judged : (n : ℕ) (test : List ℕ → Bool)
-      → ((p : List ℕ) → test p ≡ eqb (cond (broken16 d p) 14 (cond (broken17 d p) 15 0)) n) → length (keep test (candidates d)) ≡ judgedAs d n
+  judged : (n : ℕ) (test : List ℕ → Bool) → ((p : List ℕ) → test p ≡ eqb (numberBy (broken16 d p) (broken17 d p) (brokenApart d p)) n)
+      → length (keep test (candidates d)) ≡ judgedAs d n
   judged n test h = ap length (keep-agree test (λ p. eqb (numberOf (judge d p)) n) (candidates d) (λ p m.
       let (size, placed) = candidates-placed d (w .limits .clouds) p .0 m in
       h p ∙ ap (λ (k : ℕ). eqb k n) (sym (judge-number d p placed))))
@@ -39,32 +43,46 @@ module _ (d : Description) (w : WellFormed d) where
   -- Breaking 16 are the candidates to which Judge gives 14,
   pub breaking16-judged : census d .breaking16 ≡ judgedAs d 14
   unfolding census
-  breaking16-judged = judged 14 (broken16 d) (λ p. go (broken16 d p) (broken17 d p))
+  breaking16-judged = judged 14 (broken16 d) (λ p. go (broken16 d p) (broken17 d p) (brokenApart d p))
     where
-      go : (a b : Bool) → a ≡ eqb (cond a 14 (cond b 15 0)) 14
-      go true b = refl
-      go false true = refl
-      go false false = refl
+      go : (a b c : Bool) → a ≡ eqb (numberBy a b c) 14
+      go true b c = refl
+      go false true c = refl
+      go false false true = refl
+      go false false false = refl
 
   -- breaking 17 only are those to which it gives 15,
   pub breaking17only-judged : census d .breaking17only ≡ judgedAs d 15
   unfolding census
-  breaking17only-judged = judged 15 (λ p. not (broken16 d p) && broken17 d p) (λ p. go (broken16 d p) (broken17 d p))
+  breaking17only-judged = judged 15 (λ p. not (broken16 d p) && broken17 d p) (λ p. go (broken16 d p) (broken17 d p) (brokenApart d p))
     where
-      go : (a b : Bool) → (not a && b) ≡ eqb (cond a 14 (cond b 15 0)) 15
-      go true b = refl
-      go false true = refl
-      go false false = refl
+      go : (a b c : Bool) → (not a && b) ≡ eqb (numberBy a b c) 15
+      go true b c = refl
+      go false true c = refl
+      go false false true = refl
+      go false false false = refl
+
+  -- breaking a pair only are those to which it gives 17,
+  pub apartonly-judged : census d .apartonly ≡ judgedAs d 17
+  unfolding census
+  apartonly-judged = judged 17 (λ p. unexposed d p && brokenApart d p) (λ p. go (broken16 d p) (broken17 d p) (brokenApart d p))
+    where
+      go : (a b c : Bool) → ((not a && not b) && c) ≡ eqb (numberBy a b c) 17
+      go true b c = refl
+      go false true c = refl
+      go false false true = refl
+      go false false false = refl
 
   -- and secure are those of which it says so.
   pub secure-judged : census d .secure ≡ judgedAs d 0
   unfolding census securePlacements
-  secure-judged = judged 0 (λ p. not (broken16 d p) && not (broken17 d p)) (λ p. go (broken16 d p) (broken17 d p))
+  secure-judged = judged 0 (secure d) (λ p. go (broken16 d p) (broken17 d p) (brokenApart d p))
     where
-      go : (a b : Bool) → (not a && not b) ≡ eqb (cond a 14 (cond b 15 0)) 0
-      go true b = refl
-      go false true = refl
-      go false false = refl
+      go : (a b c : Bool) → ((not a && not b) && not c) ≡ eqb (numberBy a b c) 0
+      go true b c = refl
+      go false true c = refl
+      go false false true = refl
+      go false false false = refl
 
 -- ---- sums and rows
 
@@ -73,10 +91,11 @@ pub census-candidates : (d : Description) → census d .candidates ≡ count d
 unfolding census
 census-candidates d = count-is-length d
 
--- candidates = breaking 16 + breaking 17 only + secure
-pub census-sum : (d : Description) → census d .candidates ≡ census d .breaking16 + census d .breaking17only + census d .secure
+-- candidates = breaking 16 + breaking 17 only + breaking a pair only + secure
+pub census-sum : (d : Description)
+    → census d .candidates ≡ census d .breaking16 + census d .breaking17only + census d .apartonly + census d .secure
 unfolding census securePlacements
-census-sum d = three-parts (broken16 d) (broken17 d) (candidates d)
+census-sum d = four-parts (broken16 d) (broken17 d) (brokenApart d) (candidates d)
 
 -- the rows are as many as the placements that stand for their options
 pub rows-length : (d : Description) → length (rows d) ≡ length (keep (stands d) (securePlacements d))

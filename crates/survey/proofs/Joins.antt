@@ -15,7 +15,7 @@ use Rattle.description.specs.Format.{Description}
 use Rattle.description.specs.Invariants.{WellFormed, Bounded}
 use Rattle.security.specs.Accepted.{Admitted}
 use Rattle.security.specs.Soundness.{candidates, count}
-use Rattle.security.specs.Placements.{secure}
+use Rattle.security.specs.Placements.{unexposed, secure}
 use Rattle.security.proofs.Accepted.{admitted-bounded}
 use Rattle.security.proofs.Candidates.{count-is-length}
 use Rattle.costs.specs.Cost.{billOf, cost}
@@ -25,8 +25,7 @@ use Rattle.costs.proofs.Weights.{weight-class, weight-cost}
 use Rattle.packing.specs.Packing.{pack, digits}
 use Rattle.packing.proofs.Digits.{pack-before, digits-pack}
 use Rattle.weights.specs.Weights.{costLimit, classOf}
-use Rattle.visit.specs.Tables.{weight}
-use Rattle.visit.specs.Tables.{stands as standsBy}
+use Rattle.visit.specs.Tables.{weight, testsOf}
 use Rattle.visit.specs.Visits.{rowsAt, bestCostAt, bestPlaceAt, Fresh}
 use Rattle.visit.specs.Visits.{earlier as earlierWalk}
 use Rattle.visit.proofs.Drawing.{Best}
@@ -34,6 +33,7 @@ use Rattle.walk.specs.Walking.{seeAt, keepAt}
 use Rattle.walk.proofs.Whole.{seen-in-turn, kept-in-turn}
 use Rattle.tables.specs.Building.{tablesOf, padded}
 use Rattle.tables.proofs.Built.{weights, placements-are, placement-there}
+use Rattle.tables.proofs.Conflicting.{apart-is}
 use Rattle.tables.proofs.RowTest.{tests-same}
 use Rattle.survey.specs.declared.Row.{Row}
 use Rattle.survey.specs.declared.Cursor.{Cursor}
@@ -43,7 +43,7 @@ use Rattle.survey.specs.Rows.{census, securePlacements, earlier, rowOf, 
 use Rattle.survey.specs.Surveys.{toCount, toDraw, seenOf, keptOf, Asks}
 use Rattle.survey.proofs.Counting.{census-candidates}
 use Rattle.survey.proofs.Standing.{stands-by-storage}
-use Rattle.survey.proofs.Walked.{sees-16, sees-17, sees-secure, sees-options, draws}
+use Rattle.survey.proofs.Walked.{sees-16, sees-17, sees-apart, sees-secure, sees-options, draws}
 
 pub joined : (d : Description) → Admitted d → Joined d (tablesOf d)
 unfolding securePlacements
@@ -53,6 +53,7 @@ joined d a = record {
   low = placement-low;
   classIs = λ q m. ap classOf (weighs q m) ∙ weight-class d (padded d q) bounded;
   costIs = λ q m h. weighs q m ∙ weight-cost d (padded d q) bounded h;
+  apartIs = λ q m. apart-is d w q (candidate-member q m);
   standsIs = λ q m h.
       tests-same d w q (placement-there d w q m .1) ∙
       sym (stands-by-storage d w (padded d q) (secure-member q m h));
@@ -70,9 +71,11 @@ joined d a = record {
     weighs : (q : List ℕ) → List·Memᴰ q (met d (tablesOf d)) → weight (tablesOf d) (length (d .blocks)) q ≡ weightOf d (padded d q)
     weighs q m = weights d w q (placement-there d w q m .1)
 
+    candidate-member : (q : List ℕ) → List·Memᴰ q (met d (tablesOf d)) → List·Memᴰ (padded d q) (candidates d)
+    candidate-member q m = subst (λ l. List·Memᴰ (padded d q) l) (placements-are d w) (Memᴰ·map (padded d) m)
+
     secure-member : (q : List ℕ) → List·Memᴰ q (met d (tablesOf d)) → secure d (padded d q) ≡ true → List·Memᴰ (padded d q) (securePlacements d)
-    secure-member q m h = keep-members (secure d) (candidates d) (padded d q) .1
-        (subst (λ l. List·Memᴰ (padded d q) l) (placements-are d w) (Memᴰ·map (padded d) m), h)
+    secure-member q m h = keep-members (secure d) (candidates d) (padded d q) .1 (candidate-member q m, h)
 
 -- the same behind both lists changes nothing
 before-behind : (q u z : List ℕ) → length q ≡ length u → before (q ++ z) (u ++ z) ≡ before q u
@@ -115,6 +118,7 @@ starts e = subst Fresh (sym e) (refl, refl)
 pub record Sees (d : Description) (s : List ℕ) : Type 0 where
   pub sixteen : getD s 1 0 ≡ census d .breaking16
   pub seventeen : getD s 2 0 ≡ census d .breaking17only
+  pub apart : getD s 3 0 ≡ census d .apartonly
   pub secure : getD s 0 0 ≡ census d .secure
   pub options : getD s rowsAt 0 ≡ census d .options
 
@@ -125,6 +129,7 @@ counted-by d a s e =
     record {
       sixteen = ap (λ x. getD x 1 0) e ∙ sees-16 d t j;
       seventeen = ap (λ x. getD x 2 0) e ∙ sees-17 d t j;
+      apart = ap (λ x. getD x 3 0) e ∙ sees-apart d t j;
       secure = ap (λ x. getD x 0 0) e ∙ sees-secure d t j;
       options = ap (λ x. getD x rowsAt 0) e ∙ sees-options d t j;
     }
@@ -134,6 +139,7 @@ pub census-is : (d : Description) (candidates : ℕ) (s : List ℕ) → candidat
       candidates = candidates;
       breaking16 = getD s 1 0;
       breaking17only = getD s 2 0;
+      apartonly = getD s 3 0;
       secure = getD s 0 0;
       options = getD s rowsAt 0;
     }) ≡ census d
@@ -143,6 +149,7 @@ census-is d candidates s e h =
       candidates = all i;
       breaking16 = h .sixteen i;
       breaking17only = h .seventeen i;
+      apartonly = h .apart i;
       secure = h .secure i;
       options = h .options i;
     }
@@ -170,7 +177,7 @@ kept-by d a c asked s h e =
     floor q m = h .past (cost d (padded d q)) q (j .sized q m) (j .low q m)
 
     go : (o : Option Row) → Best earlier (later c) (λ q. rowOf d (padded d q)) (λ x. x .cost) (λ q. weight (tablesOf d) (length (d .blocks)) q) pack
-        (standsBy (tablesOf d) (length (d .blocks))) (λ q. secure d (padded d q)) (h .floor) (h .place) (met d (tablesOf d))
+        (testsOf (tablesOf d) (length (d .blocks))) (λ q. unexposed d (padded d q)) (h .floor) (h .place) (met d (tablesOf d))
         (seenOf d (toDraw (h .floor) (h .place))) o
         → KeptRow d o (seenOf d (toDraw (h .floor) (h .place)))
     go none (limit, place) = limit

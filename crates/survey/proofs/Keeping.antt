@@ -4,14 +4,14 @@ use native.Mathlib.Nat.{add-zero}
 use native.Mathlib.Numerals.{add-one}
 use native.Mathlib.Omega.{arith}
 use mathlib.Core.Path.{_≡_, refl, sym, ap, _∙_}
-use mathlib.Core.Bool.{Bool, true, false, _&&_, cond, true≢false}
+use mathlib.Core.Bool.{Bool, true, false, cond}
 use mathlib.Core.List.{List, [], _∷_, _++_, map, foldl, append-assoc, append-nil}
 use lib.ListN.{length, getD, take, drop, length-append, take-append-drop, length-drop}
 use lib.Seq.{length-take-le, take-at, drop-at, drop-drop}
-use borrow.Author.Tests.{ltb-true, ltb-false}
-use Rattle.weights.specs.Weights.{costLimit, isSecure}
+use Rattle.visit.specs.Tables.{Tests}
 use Rattle.visit.specs.Visits.{rowsAt, see, withRow, keepRow}
-use Rattle.visit.proofs.Cases.{kept-broken, kept-other, kept-row, row-behind}
+use Rattle.visit.proofs.Cases.{kept-other, kept-row, row-behind}
+use Rattle.visit.proofs.Classes.{isRow as isRowBy}
 use Rattle.visit.proofs.Counters.{one, Counts, see-at, still-counts}
 use Rattle.walk.specs.Walking.{Sight}
 use Rattle.sorting.specs.Rows.{flat}
@@ -37,18 +37,18 @@ module _ (k : ℕ) (vs ws : List ℕ) (h : k + length vs ≤ length ws) where
       sym (drop-drop j (k + length vs) middle)
       ∙ ap (drop j) (drop-at (take k ws ++ vs) (drop (k + length vs) ws) (k + length vs) front-length) ∙ drop-drop j (k + length vs) ws
 
-module _ {A : Type 0} (weight number : A → ℕ) (stands : A → Bool) where
+module _ {A : Type 0} (weight number : A → ℕ) (tests : A → Tests) where
   abbrev isRow : A → Bool
-  isRow a = isSecure (weight a) && stands a
+  isRow a = isRowBy (weight a) (tests a)
 
   abbrev words : A → ℕ × ℕ
   words a = (weight a, number a)
 
   abbrev seeing : List ℕ → A → List ℕ
-  seeing s a = see (weight a) (number a) (stands a) s
+  seeing s a = see (weight a) (number a) (tests a) s
 
   abbrev kept : A → List ℕ → List ℕ → List ℕ
-  kept a s ws = keepRow (weight a) (number a) (stands a) s ws
+  kept a s ws = keepRow (weight a) (number a) (tests a) s ws
 
   abbrev keeping : Sight → A → Sight
   keeping v a = (seeing (v .0) a, kept a (v .0) (v .1))
@@ -59,20 +59,10 @@ module _ {A : Type 0} (weight number : A → ℕ) (stands : A → Bool) where
 
   -- one placement: a row is put in, another leaves the words as they are
   put-in : (a : A) (s ws : List ℕ) → Counts s → isRow a ≡ true → kept a s ws ≡ withRow (rows s) (weight a) (number a) ws
-  put-in a s ws c = go (isSecure (weight a)) (stands a) refl refl
-    where
-      go : (u v : Bool) → isSecure (weight a) ≡ u → stands a ≡ v → (u && v) ≡ true → kept a s ws ≡ withRow (rows s) (weight a) (number a) ws
-      go true true e f h = kept-row (weight a) (number a) (stands a) s ws (c .on) (ltb-true (weight a) costLimit e) f
-      go true false e f h = absurd (true≢false (sym h))
-      go false v e f h = absurd (true≢false (sym h))
+  put-in a s ws c e = kept-row (weight a) (number a) (tests a) s ws (c .on) e
 
   left-out : (a : A) (s ws : List ℕ) → isRow a ≡ false → kept a s ws ≡ ws
-  left-out a s ws = go (isSecure (weight a)) (stands a) refl refl
-    where
-      go : (u v : Bool) → isSecure (weight a) ≡ u → stands a ≡ v → (u && v) ≡ false → kept a s ws ≡ ws
-      go true true e f h = absurd (true≢false h)
-      go true false e f h = kept-other (weight a) (number a) (stands a) s ws f
-      go false v e f h = kept-broken (weight a) (number a) (stands a) s ws (ltb-false (weight a) costLimit e)
+  left-out a s ws e = kept-other (weight a) (number a) (tests a) s ws e
 
   -- the words after a list of placements, where n rows stood before and m are met
   abbrev after : (n m : ℕ) → List (ℕ × ℕ) → List ℕ → List ℕ
@@ -101,7 +91,7 @@ module _ {A : Type 0} (weight number : A → ℕ) (stands : A → Bool) where
       ∙ ap (λ l. l ++ drop ((rows s + 0) * 2) ws) (append-nil (take (rows s * 2) ws))
       ∙ ap (λ k. take (rows s * 2) ws ++ drop (k * 2) ws) (add-zero (rows s)) ∙ take-append-drop (rows s * 2) ws)
   kept-words (a ∷ l) s ws c h =
-      step (kept-words l (seeing s a) (kept a s ws) (still-counts weight number stands s a c)) (isRow a) refl h
+      step (kept-words l (seeing s a) (kept a s ws) (still-counts weight number tests s a c)) (isRow a) refl h
     where
       step : ((rows (seeing s a) + length (keep isRow l)) * 2 ≤ length (kept a s ws)
           → foldl keeping (keeping (s, ws) a) l .1 ≡ leave (rows (seeing s a)) (keep isRow l) (kept a s ws))
@@ -111,7 +101,7 @@ module _ {A : Type 0} (weight number : A → ℕ) (stands : A → Bool) where
           let n : ℕ = rows s in
           let m : ℕ = length (keep isRow l) in
           let counted : rows (seeing s a) ≡ n + 1 =
-          see-at (weight a) (number a) (stands a) s (c .size) (c .on) rowsAt (omega arith) ∙ ap (λ b. n + one b) e in
+          see-at (weight a) (number a) (tests a) s (c .size) (c .on) rowsAt (omega arith) ∙ ap (λ b. n + one b) e in
           let stored = put-in a s ws c e ∙ row-behind n (weight a) (number a) ws (omega arith) in
           let same : length (kept a s ws) ≡ length ws =
           ap length stored ∙ middle-length (n * 2) (weight a ∷ number a ∷ []) ws (omega arith) in
@@ -120,7 +110,7 @@ module _ {A : Type 0} (weight number : A → ℕ) (stands : A → Bool) where
           ∙ ap (λ x. after n x (words a ∷ map words (keep isRow l)) ws) (add-one m)
       step rest false e k =
           let counted : rows (seeing s a) ≡ rows s =
-          see-at (weight a) (number a) (stands a) s (c .size) (c .on) rowsAt (omega arith) ∙ ap (λ b. rows s + one b) e ∙ add-zero (rows s) in
+          see-at (weight a) (number a) (tests a) s (c .size) (c .on) rowsAt (omega arith) ∙ ap (λ b. rows s + one b) e ∙ add-zero (rows s) in
           let same = left-out a s ws e in
           rest (omega (arith, counted, ap length same))
           ∙ (λ i. after (counted i) (length (keep isRow l)) (map words (keep isRow l)) (same i))

@@ -22,9 +22,9 @@ use Rattle.security.proofs.Candidates.{count-is-length}
 use Rattle.costs.specs.Cost.{cost}
 use Rattle.packing.specs.Packing.{pack, digits}
 use Rattle.packing.proofs.Digits.{digits-pack}
-use Rattle.weights.specs.Weights.{isSecure}
-use Rattle.visit.specs.Tables.{weight}
-use Rattle.visit.specs.Tables.{stands as standsBy}
+use Rattle.weights.specs.Weights.{isUnexposed}
+use Rattle.visit.specs.Tables.{weight, testsOf}
+use Rattle.visit.specs.Visits.{passes}
 use Rattle.walk.proofs.Whole.{kept-in-turn}
 use Rattle.sorting.specs.Rows.{flat, lower, pairs}
 use Rattle.sorting.proofs.Rows.{length-flat, pairs-flat, lower-is}
@@ -38,7 +38,7 @@ use Rattle.survey.proofs.Counting.{rows-length}
 use Rattle.survey.proofs.Drawing.{standing}
 use Rattle.survey.proofs.Joins.{joined, ordered}
 use Rattle.survey.proofs.Keeping.{kept-words}
-use Rattle.survey.proofs.Walked.{secure-is, is-row}
+use Rattle.survey.proofs.Walked.{unexposed-is, is-row}
 
 module _ (d : Description) (a : Admitted d) where
   abbrev n : ℕ
@@ -54,7 +54,7 @@ module _ (d : Description) (a : Admitted d) where
   j = joined d a
 
   abbrev isRow : List ℕ → Bool
-  isRow q = isSecure (W q) && standsBy (tablesOf d) n q
+  isRow q = isUnexposed (W q) && passes (testsOf (tablesOf d) n q)
 
   standing-met : map (padded d) (keep isRow met') ≡ standing d
   unfolding securePlacements
@@ -70,7 +70,7 @@ module _ (d : Description) (a : Admitted d) where
   words-met : (q : List ℕ) → List·Memᴰ q (keep isRow met') → _≡_ {A = ℕ × ℕ} (W q, pack q) (rowKey d (rowOf d (padded d q)))
   words-met q m =
       let (k, row) = keep-members isRow met' q .0 m in
-      let light = sym (secure-is d (tablesOf d) j q k) ∙ both-pass (isSecure (W q)) (standsBy (tablesOf d) n q) .0 row .0 in
+      let light = sym (unexposed-is d (tablesOf d) j q k) ∙ both-pass (isUnexposed (W q)) (passes (testsOf (tablesOf d) n q)) .0 row .0 in
       let same = sym (blocks-of q k) in
       λ i. (j .costIs q k light i, pack (same i))
 
@@ -92,7 +92,7 @@ module _ (d : Description) (a : Admitted d) where
   pub walk-keeps : (words : List ℕ) → keysNeeded d ≤ length words → keptOf d toCount words ≡ unsorted d ++ drop (keysNeeded d) words
   walk-keeps words h =
       kept-in-turn (tablesOf d) n toCount words
-      ∙ kept-words W pack (standsBy (tablesOf d) n) met' toCount words (record { size = refl; on = refl }) (rw (zero-add, rows-number) h)
+      ∙ kept-words W pack (testsOf (tablesOf d) n) met' toCount words (record { size = refl; on = refl }) (rw (zero-add, rows-number) h)
       ∙ ap₂ (λ a b. a ++ drop (b * 2) words) kept-unsorted (zero-add (length (keep isRow met')) ∙ rows-number)
 
   -- a row is that of a placement that was met

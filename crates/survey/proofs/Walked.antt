@@ -1,30 +1,32 @@
 -- A walk over the tables of a description that counts sees its census, and one that draws keeps the row that the draw answers.
-use Prim.Native.Nat.{ℕ, _+_, _≤_}
+use Prim.Native.Nat.{ℕ, zero, suc, _+_, _≤_, _<_}
 use native.Mathlib.Nat.{zero-add}
 use native.Mathlib.Omega.{arith}
-use mathlib.Core.Path.{_≡_, refl, sym, ap, subst, _∙_}
-use mathlib.Core.Bool.{Bool, true, false, not, _&&_, _||_, cond}
+use mathlib.Core.Path.{_≡_, refl, sym, ap, ap₂, subst, _∙_}
+use mathlib.Core.Bool.{Bool, true, false, not, _&&_, _||_, cond, Bool·not-not}
 use mathlib.Core.List.{List, [], _∷_, foldl, foldl-map, List·Memᴰ, List·Memᴰ·head, List·Memᴰ·tail}
 use mathlib.Core.Option.{Option, none, some}
 use lib.Dec.{ltb, eqb}
 use lib.ListN.{length, getD, length-map}
+use borrow.Author.Tests.{ne-eqb}
 use Rattle.sequences.specs.Draws.{betterIf, beats}
 use Rattle.sequences.specs.Lists.{keep, before}
 use Rattle.sequences.proofs.Agreeing.{keep-agree, keep-map}
 use Rattle.sequences.proofs.Parts.{keep-both}
 use Rattle.description.specs.Format.{Description}
 use Rattle.security.specs.Soundness.{candidates}
-use Rattle.security.specs.Placements.{broken16, broken17, secure}
+use Rattle.security.specs.Placements.{broken16, broken17, unexposed, brokenApart, secure}
 use Rattle.costs.specs.Cost.{cost}
 use Rattle.costs.specs.Terms.{classIn}
-use Rattle.costs.proofs.Weights.{class-secure as secure-class, class-16, class-17}
+use Rattle.costs.proofs.Weights.{class-unexposed, class-16, class-17}
 use Rattle.packing.specs.Packing.{pack}
-use Rattle.weights.specs.Weights.{isSecure, classOf}
-use Rattle.weights.proofs.Classes.{class-secure}
-use Rattle.visit.specs.Tables.{Tables, weight}
+use Rattle.weights.specs.Weights.{isUnexposed, secureClass, clashClass}
+use Rattle.weights.proofs.Classes.{class-unexposed as weight-unexposed}
+use Rattle.visit.specs.Tables.{Tables, Tests, weight, testsOf}
 use Rattle.visit.specs.Tables.{stands as standsBy}
-use Rattle.visit.specs.Visits.{rowsAt, see}
+use Rattle.visit.specs.Visits.{rowsAt, classAt, passes, see}
 use Rattle.visit.specs.Visits.{earlier as walkEarlier}
+use Rattle.visit.proofs.Classes.{class-secure, class-clash, class-exposed}
 use Rattle.visit.proofs.Counters.{Counts, countedAs, counters}
 use Rattle.visit.proofs.Drawing.{Fits, Kept, kept-all}
 use Rattle.walk.specs.Walking.{seeAll}
@@ -64,16 +66,23 @@ module _ (d : Description) (t : Tables) (j : Joined d t) where
       ap length (keep-agree mine (λ q. test (padded d q)) (met d t) h) ∙ sym (length-map (keep (λ q. test (padded d q)) (met d t)) (padded d)) ∙
       ap length (sym (keep-map (padded d) test (met d t))) ∙ ap (λ l. length (keep test l)) (j .candidatesAre)
 
-  -- the classes
-  pub secure-is : (q : List ℕ) → List·Memᴰ q (met d t) → isSecure (W q) ≡ secure d (padded d q)
-  secure-is q m = sym (class-secure (W q)) ∙ ap (λ n. eqb n 0) (j .classIs q m) ∙ secure-class d (padded d q)
+  abbrev T : List ℕ → Tests
+  T q = testsOf t n q
 
-  pub is-row : (q : List ℕ) → List·Memᴰ q (met d t) → (isSecure (W q) && standsBy t n q) ≡ (secure d (padded d q) && stands d (padded d q))
-  is-row q m = ap (λ x. x && standsBy t n q) (secure-is q m) ∙ go (secure d (padded d q)) refl
+  -- the weight tells whether rules 16 and 17 are kept
+  pub unexposed-is : (q : List ℕ) → List·Memᴰ q (met d t) → isUnexposed (W q) ≡ unexposed d (padded d q)
+  unexposed-is q m = sym (weight-unexposed (W q)) ∙ ap (λ n. eqb n 0) (j .classIs q m) ∙ class-unexposed d (padded d q)
+
+  -- with both tests it tells the rows
+  pub is-row : (q : List ℕ) → List·Memᴰ q (met d t) → (isUnexposed (W q) && passes (T q)) ≡ (secure d (padded d q) && stands d (padded d q))
+  is-row q m =
+      ap₂ (λ x y. x && (y && standsBy t n q)) (unexposed-is q m) (j .apartIs q m) ∙
+      go (unexposed d (padded d q)) (not (brokenApart d (padded d q))) (j .standsIs q m)
     where
-      go : (b : Bool) → secure d (padded d q) ≡ b → (b && standsBy t n q) ≡ (b && stands d (padded d q))
-      go true e = j .standsIs q m e
-      go false e = refl
+      go : (x y : Bool) → ((x && y) ≡ true → standsBy t n q ≡ stands d (padded d q)) → (x && (y && standsBy t n q)) ≡ ((x && y) && stands d (padded d q))
+      go true true h = h refl
+      go true false h = refl
+      go false y h = refl
 
   -- ---- a walk that counts sees the census
 
@@ -85,27 +94,49 @@ module _ (d : Description) (t : Tables) (j : Joined d t) where
 
   -- what a counter counts is a test of candidates
   counted-at : (k : ℕ) → k ≤ rowsAt → (test : List ℕ → Bool)
-      → ((q : List ℕ) → List·Memᴰ q (met d t) → countedAs W pack (standsBy t n) k q ≡ test (padded d q))
+      → ((q : List ℕ) → List·Memᴰ q (met d t) → countedAs W pack T k q ≡ test (padded d q))
       → getD counted k 0 ≡ getD toCount k 0 + length (keep test (candidates d))
   counted-at k h test same =
-      ap (λ l. getD l k 0) (seen-in-turn t n toCount) ∙ counters W pack (standsBy t n) k h (met d t) toCount counts ∙
+      ap (λ l. getD l k 0) (seen-in-turn t n toCount) ∙ counters W pack T k h (met d t) toCount counts ∙
       ap (λ m. getD toCount k 0 + m) (among test _ same)
 
-  -- the class of a placement that was met
-  class-met : (k : ℕ) (q : List ℕ) → List·Memᴰ q (met d t) → eqb (classOf (W q)) k ≡ eqb (classIn d (padded d q)) k
-  class-met k q m = ap (λ c. eqb c k) (j .classIs q m)
+  -- the same for the counter of a class, which begins at 0
+  class-counted : (k : ℕ) → k < rowsAt → (test : List ℕ → Bool)
+      → ((q : List ℕ) → List·Memᴰ q (met d t) → eqb (classAt (W q) (T q)) k ≡ test (padded d q)) → getD counted k 0 ≡ length (keep test (candidates d))
+  class-counted k h test same =
+      counted-at k (omega arith) test (λ q m. rw (ne-eqb k rowsAt (λ e. omega arith)) (same q m)) ∙
+      ap (λ c. c + length (keep test (candidates d))) (zeros k h) ∙ zero-add _
+    where
+      zeros : (k : ℕ) → k < rowsAt → getD toCount k 0 ≡ 0
+      zeros zero h = refl
+      zeros (suc zero) h = refl
+      zeros (suc (suc zero)) h = refl
+      zeros (suc (suc (suc zero))) h = refl
+      zeros (suc (suc (suc (suc k)))) h = absurd (omega arith)
+
+  -- a class that the edges decide
+  edges-class : (k : ℕ) → secureClass < k → k < clashClass → (q : List ℕ) → List·Memᴰ q (met d t)
+      → eqb (classAt (W q) (T q)) k ≡ eqb (classIn d (padded d q)) k
+  edges-class k low high q m = class-exposed (W q) (T q) k low high ∙ ap (λ c. eqb c k) (j .classIs q m)
 
   pub sees-16 : getD counted 1 0 ≡ census d .breaking16
   unfolding census
-  sees-16 = counted-at 1 (omega arith) (broken16 d) (λ q m. class-met 1 q m ∙ class-16 d (padded d q)) ∙ zero-add _
+  sees-16 = class-counted 1 (omega arith) (broken16 d) (λ q m. edges-class 1 (omega arith) (omega arith) q m ∙ class-16 d (padded d q))
 
   pub sees-17 : getD counted 2 0 ≡ census d .breaking17only
   unfolding census
-  sees-17 = counted-at 2 (omega arith) (λ p. not (broken16 d p) && broken17 d p) (λ q m. class-met 2 q m ∙ class-17 d (padded d q)) ∙ zero-add _
+  sees-17 = class-counted 2 (omega arith) (λ p. not (broken16 d p) && broken17 d p)
+      (λ q m. edges-class 2 (omega arith) (omega arith) q m ∙ class-17 d (padded d q))
+
+  pub sees-apart : getD counted 3 0 ≡ census d .apartonly
+  unfolding census
+  sees-apart = class-counted 3 (omega arith) (λ p. unexposed d p && brokenApart d p) (λ q m.
+      class-clash (W q) (T q) ∙ ap₂ (λ x y. x && not y) (unexposed-is q m) (j .apartIs q m) ∙
+      ap (λ b. unexposed d (padded d q) && b) (Bool·not-not (brokenApart d (padded d q))))
 
   pub sees-secure : getD counted 0 0 ≡ census d .secure
   unfolding census securePlacements
-  sees-secure = counted-at 0 (omega arith) (secure d) (λ q m. class-met 0 q m ∙ secure-class d (padded d q)) ∙ zero-add _
+  sees-secure = class-counted 0 (omega arith) (secure d) (λ q m. class-secure (W q) (T q) ∙ ap₂ _&&_ (unexposed-is q m) (j .apartIs q m))
 
   pub sees-options : getD counted rowsAt 0 ≡ census d .options
   sees-options = counted-at rowsAt (omega arith) (λ p. secure d p && stands d p) is-row ∙ zero-add _ ∙ sym (rows-number d) ∙ options-number d
@@ -120,11 +151,11 @@ module _ (d : Description) (t : Tables) (j : Joined d t) where
     row q = rowOf d (padded d q)
 
     abbrev Keeps : List ℕ → Option Row → Type 0
-    Keeps = Kept earlier (later c) row (λ r. r .cost) W pack (standsBy t n) (λ q. secure d (padded d q)) cost₀ place₀ (met d t)
+    Keeps = Kept earlier (later c) row (λ r. r .cost) W pack T (λ q. unexposed d (padded d q)) cost₀ place₀ (met d t)
 
-    fits : Fits earlier (later c) row (λ r. r .cost) W pack (standsBy t n) (λ q. secure d (padded d q)) cost₀ place₀ (met d t)
+    fits : Fits earlier (later c) row (λ r. r .cost) W pack T (λ q. unexposed d (padded d q)) cost₀ place₀ (met d t)
     fits = record {
-      secureIs = secure-is;
+      unexposedIs = unexposed-is;
       priceIs = j .costIs;
       orderIs = λ q r a b.
           ap (λ x. ltb (cost d (padded d q)) (cost d (padded d r)) || (eqb (cost d (padded d q)) (cost d (padded d r)) && x)) (ordered q r a b);
@@ -133,11 +164,11 @@ module _ (d : Description) (t : Tables) (j : Joined d t) where
 
     -- the better of what is kept and a placement, by the walk's row test and by the definition's
     agree : (o : Option Row) (q : List ℕ) → List·Memᴰ q (met d t)
-        → betterIf earlier (later c) (λ a. secure d (padded d a) && standsBy t n a) row o q ≡
+        → betterIf earlier (later c) (λ a. unexposed d (padded d a) && passes (T a)) row o q ≡
         betterIf earlier (later c) (λ p. secure d p && stands d p) (rowOf d) o (padded d q)
     agree o q m =
         ap (λ x. cond (x && later c (row q) && beats earlier (row q) o) (some (row q)) o)
-        (sym (ap (λ x. x && standsBy t n q) (secure-is q m)) ∙ is-row q m)
+        (sym (ap (λ x. x && passes (T q)) (unexposed-is q m)) ∙ is-row q m)
 
     nothing-kept : Keeps (toDraw cost₀ place₀) none
     nothing-kept = record { asked = record { size = refl; off = refl; floorIs = refl; placeIs = refl }; best = (refl, refl) }
@@ -148,6 +179,6 @@ module _ (d : Description) (t : Tables) (j : Joined d t) where
         let same = foldl-agree _ _ (met d t) agree none ∙ sym (foldl-map (padded d) better (met d t) none) ∙
         ap (foldl better none) (j .candidatesAre) ∙ sym (draw-walks d c) in
         subst (λ s. Keeps s (draw d c)) (sym (seen-in-turn t n (toDraw cost₀ place₀)))
-        (subst (Keeps (foldl (λ s q. see (W q) (pack q) (standsBy t n q) s) (toDraw cost₀ place₀) (met d t))) same
-        (kept-all earlier (later c) row (λ r. r .cost) W pack (standsBy t n) (λ q. secure d (padded d q)) cost₀ place₀ (met d t) fits
+        (subst (Keeps (foldl (λ s q. see (W q) (pack q) (T q) s) (toDraw cost₀ place₀) (met d t))) same
+        (kept-all earlier (later c) row (λ r. r .cost) W pack T (λ q. unexposed d (padded d q)) cost₀ place₀ (met d t) fits
         (met d t) (λ q m. m) (toDraw cost₀ place₀) none nothing-kept))

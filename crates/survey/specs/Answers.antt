@@ -7,12 +7,13 @@ use Rattle.survey.specs.declared.Next.{Next}
 use Rattle.survey.specs.declared.Row.{Row}
 use Rattle.survey.specs.Rows.{Census}
 
--- the five counts
+-- the six counts
 abbrev pub figuresOf : Figures → Census
 figuresOf c = record {
   candidates = c .candidates;
   breaking16 = c .breaking16;
   breaking17only = c .breaking17only;
+  apartonly = c .apartonly;
   secure = c .secure;
   options = c .options;
 }

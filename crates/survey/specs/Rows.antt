@@ -6,7 +6,7 @@ use mathlib.Core.Option.{Option}
 use lib.ListN.{length}
 use Rattle.description.specs.Format.{Description}
 use Rattle.security.specs.Soundness.{candidates}
-use Rattle.security.specs.Placements.{broken16, broken17, secure}
+use Rattle.security.specs.Placements.{broken16, broken17, unexposed, brokenApart, secure}
 use Rattle.costs.specs.Cost.{billOf, cost}
 use Rattle.options.specs.Options.{sameOption}
 use Rattle.survey.specs.declared.Row.{Row}
@@ -24,6 +24,7 @@ pub record Census : Type 0 where
   pub candidates : ℕ
   pub breaking16 : ℕ
   pub breaking17only : ℕ
+  pub apartonly : ℕ
   pub secure : ℕ
   pub options : ℕ
 
@@ -32,6 +33,7 @@ census d = record {
   candidates = length (candidates d);
   breaking16 = length (keep (broken16 d) (candidates d));
   breaking17only = length (keep (λ p. not (broken16 d p) && broken17 d p) (candidates d));
+  apartonly = length (keep (λ p. unexposed d p && brokenApart d p) (candidates d));
   secure = length (securePlacements d);
   options = length (distinct d (securePlacements d));
 }

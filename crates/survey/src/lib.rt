@@ -30,6 +30,7 @@ use visit::tables::TABLE_WORDS;
 use walk::walk_all;
 use weights::BREAKS_FIRST;
 use weights::BREAKS_SECOND;
+use weights::CLASHES;
 use weights::COST_LIMIT;
 use weights::SECURE;
 
@@ -54,6 +55,7 @@ pub struct Figures {
     pub candidates: u64,
     pub breaking16: u64,
     pub breaking17only: u64,
+    pub apartonly: u64,
     pub secure: u64,
     pub options: u64,
 }
@@ -99,7 +101,7 @@ fn to_count() -> State
     state
 }
 
-// How many candidates there are of each kind. Rule 16 is looked for first.
+// How many candidates there are of each kind. Rule 16 is looked for first, then rule 17, then the pairs.
 pub fn count_all(w: &Words, candidates: u64) -> Figures
     requires { ⌜ Admitted (describes (now w)) ⌝ }
     requires { ⌜ candidates ≡ count (describes (now w)) ⌝ }
@@ -112,6 +114,7 @@ pub fn count_all(w: &Words, candidates: u64) -> Figures
         candidates,
         breaking16: state[BREAKS_FIRST],
         breaking17only: state[BREAKS_SECOND],
+        apartonly: state[CLASHES],
         secure: state[SECURE],
         options: state[ROWS],
     }

@@ -141,7 +141,7 @@ module _ (d : Description) (wf : WellFormed d) where
 
   pub tables-are : {words before after : List ℕ} {blocks clouds : ℕ} → words ≡ wordsOf d → before ≡ bytesOf d (replicate 128 0)
       → blocks ≡ length (d .blocks) → clouds ≡ length (d .clouds)
-      → after ≡ take 129 before ++ exchangesBy words before blocks clouds → tables words after ≡ tablesOf d
+      → after ≡ take 266 before ++ exchangesBy words before blocks clouds → tables words after ≡ tablesOf d
   unfolding tablesOf exchangesOf
   tables-are {words} {before} {blocks = blocks} {clouds = clouds} w b m n e =
       let zeros : List ℕ = replicate 128 0 in
@@ -150,4 +150,4 @@ module _ (d : Description) (wf : WellFormed d) where
       tableTo-same 128 (blocks * 8) (length (d .blocks) * 8) (exchangeBy words before clouds) (exchangeAt d) count (λ i l.
       let by : exchangeBy words before clouds i ≡ exchangeBy (wordsOf d) (bytesOf d zeros) (length (d .clouds)) i = rw (w, b, n) refl in
       by ∙ exchange-is zeros i (omega (arith, count))) in
-      ap₂ tables w (e ∙ ap₂ (λ (x y : List ℕ). take 129 x ++ y) b last ∙ other-last d zeros (exchangesOf d))
+      ap₂ tables w (e ∙ ap₂ (λ (x y : List ℕ). take 266 x ++ y) b last ∙ other-last d zeros (exchangesOf d))

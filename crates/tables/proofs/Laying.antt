@@ -1,13 +1,14 @@
 -- The tables are laid one behind the other: each in a part of the words or bytes that was lent, full of zeros, and comes back with the table.
-use Prim.Native.Nat.{ℕ, _+_, _≤_}
+use Prim.Native.Nat.{ℕ, _+_, _≤_, _<_}
+use native.Mathlib.Nat.{zero-lt-suc}
 use native.Mathlib.Omega.{arith}
-use mathlib.Core.Path.{_≡_, refl, sym, ap, ap₂, _∙_}
-use mathlib.Core.List.{List, [], _++_, append-nil, append-assoc}
-use lib.ListN.{length, take, drop, replicate, length-append, length-replicate, replicate-append-replicate}
+use mathlib.Core.Path.{_≡_, refl, sym, ap, ap₂, subst, _∙_}
+use mathlib.Core.List.{List, [], _∷_, _++_, append-nil, append-assoc}
+use lib.ListN.{length, take, drop, set, replicate, length-append, length-replicate, replicate-append-replicate}
 use lib.Seq.{take-at, drop-at}
 use Rattle.description.specs.Format.{Description}
-use Rattle.tables.specs.Building.{ownOf, termsOf, endsOf, startsOf, masksOf, pairsOf, wordsOf, bytesOf}
-use Rattle.tables.proofs.Places.{own-size, two-size, three-size}
+use Rattle.tables.specs.Building.{ownOf, termsOf, endsOf, startsOf, masksOf, pairsOf, conflictsOf, wordsOf, bytesOf}
+use Rattle.tables.proofs.Places.{own-size, two-size, three-size, four-size}
 
 -- ---- a part of a list that is lent
 
@@ -77,67 +78,99 @@ module _ (d : Description) {s : List ℕ} (lent : s ≡ replicate 2176 0) where
     pub words-laid : {terms : List ℕ} → terms ≡ termsOf d → put 128 2048 (put 0 128 s own) terms ≡ wordsOf d
     words-laid t = table-back (ownOf d) [] 128 2048 words-second (own-size d) t ∙ ap (λ (l : List ℕ). ownOf d ++ l) (append-nil (termsOf d))
 
--- ---- the bytes: the starts, the ends in front of them, and then the masks and the pairs
+-- ---- the conflicts: their number, and behind it the list
 
-module _ (d : Description) {s : List ℕ} (lent : s ≡ replicate 257 0) where
-  bytes-first : s ≡ zeros 64 ++ (zeros 17 ++ zeros 176)
+module _ {s : List ℕ} (lent : s ≡ replicate 137 0) (vs : List ℕ) where
+  pub list-room : 137 ≤ length s
+  list-room = omega (arith, ap length lent, length-replicate {A = ℕ} 137 0)
+
+  pub list-part : take 136 (drop 1 s) ≡ replicate 136 0
+  list-part = ap (λ l. take 136 (drop 1 l)) lent
+
+  pub number-room : 0 < length (put 1 136 s vs)
+  number-room = subst (λ l. 0 < length (put 1 136 l vs)) (sym lent) (zero-lt-suc _)
+
+  pub number-laid : (n : ℕ) → set (put 1 136 s vs) 0 n ≡ n ∷ vs
+  number-laid n = ap (λ l. set (put 1 136 l vs) 0 n) lent ∙ ap (λ l. n ∷ l) (append-nil vs)
+
+-- ---- the bytes: the starts, the ends in front of them, and then the masks, the pairs and the conflicts
+
+module _ (d : Description) {s : List ℕ} (lent : s ≡ replicate 394 0) where
+  bytes-first : s ≡ zeros 64 ++ (zeros 17 ++ zeros 313)
   unfolding zeros
-  bytes-first = lent ∙ zeros-split 64 193 ∙ ap (λ (l : List ℕ). zeros 64 ++ l) (zeros-split 17 176)
+  bytes-first = lent ∙ zeros-split 64 330 ∙ ap (λ (l : List ℕ). zeros 64 ++ l) (zeros-split 17 313)
 
   pub starts-room : 81 ≤ length s
-  starts-room = enough (zeros 64) (zeros 176) 64 17 bytes-first (zeros-size 64)
+  starts-room = enough (zeros 64) (zeros 313) 64 17 bytes-first (zeros-size 64)
 
   pub starts-lent : take 17 (drop 64 s) ≡ replicate 17 0
-  starts-lent = zeros-lent (zeros 64) (zeros 176) 64 17 bytes-first (zeros-size 64)
+  starts-lent = zeros-lent (zeros 64) (zeros 313) 64 17 bytes-first (zeros-size 64)
 
   module _ {starts : List ℕ} (a : starts ≡ startsOf d) where
     abbrev one : List ℕ
     one = put 64 17 s starts
 
-    bytes-second : one ≡ [] ++ (zeros 64 ++ (startsOf d ++ zeros 176))
-    bytes-second = table-back (zeros 64) (zeros 176) 64 17 bytes-first (zeros-size 64) a
+    bytes-second : one ≡ [] ++ (zeros 64 ++ (startsOf d ++ zeros 313))
+    bytes-second = table-back (zeros 64) (zeros 313) 64 17 bytes-first (zeros-size 64) a
 
     pub ends-room : 64 ≤ length one
-    ends-room = enough [] (startsOf d ++ zeros 176) 0 64 bytes-second refl
+    ends-room = enough [] (startsOf d ++ zeros 313) 0 64 bytes-second refl
 
     pub ends-lent : take 64 (drop 0 one) ≡ replicate 64 0
-    ends-lent = zeros-lent [] (startsOf d ++ zeros 176) 0 64 bytes-second refl
+    ends-lent = zeros-lent [] (startsOf d ++ zeros 313) 0 64 bytes-second refl
 
     module _ {ends : List ℕ} (b : ends ≡ endsOf d) where
       abbrev two : List ℕ
       two = put 0 64 one ends
 
-      bytes-third : two ≡ endsOf d ++ startsOf d ++ (zeros 16 ++ zeros 160)
+      bytes-third : two ≡ endsOf d ++ startsOf d ++ (zeros 16 ++ zeros 297)
       unfolding zeros
       bytes-third =
-          table-back [] (startsOf d ++ zeros 176) 0 64 bytes-second refl b ∙ sym (append-assoc (endsOf d) (startsOf d) (zeros 176)) ∙
-          ap (λ (l : List ℕ). endsOf d ++ startsOf d ++ l) (zeros-split 16 160)
+          table-back [] (startsOf d ++ zeros 313) 0 64 bytes-second refl b ∙ sym (append-assoc (endsOf d) (startsOf d) (zeros 313)) ∙
+          ap (λ (l : List ℕ). endsOf d ++ startsOf d ++ l) (zeros-split 16 297)
 
       pub masks-room : 97 ≤ length two
-      masks-room = enough (endsOf d ++ startsOf d) (zeros 160) 81 16 bytes-third (two-size d)
+      masks-room = enough (endsOf d ++ startsOf d) (zeros 297) 81 16 bytes-third (two-size d)
 
       pub masks-lent : take 16 (drop 81 two) ≡ replicate 16 0
-      masks-lent = zeros-lent (endsOf d ++ startsOf d) (zeros 160) 81 16 bytes-third (two-size d)
+      masks-lent = zeros-lent (endsOf d ++ startsOf d) (zeros 297) 81 16 bytes-third (two-size d)
 
       module _ {masks : List ℕ} (e : masks ≡ masksOf d) where
         abbrev three : List ℕ
         three = put 81 16 two masks
 
-        bytes-fourth : three ≡ endsOf d ++ startsOf d ++ masksOf d ++ (zeros 32 ++ zeros 128)
+        bytes-fourth : three ≡ endsOf d ++ startsOf d ++ masksOf d ++ (zeros 32 ++ zeros 265)
         unfolding zeros
         bytes-fourth =
-            table-back (endsOf d ++ startsOf d) (zeros 160) 81 16 bytes-third (two-size d) e ∙
-            sym (append-assoc (endsOf d ++ startsOf d) (masksOf d) (zeros 160)) ∙
-            ap (λ (l : List ℕ). endsOf d ++ startsOf d ++ masksOf d ++ l) (zeros-split 32 128)
+            table-back (endsOf d ++ startsOf d) (zeros 297) 81 16 bytes-third (two-size d) e ∙
+            sym (append-assoc (endsOf d ++ startsOf d) (masksOf d) (zeros 297)) ∙
+            ap (λ (l : List ℕ). endsOf d ++ startsOf d ++ masksOf d ++ l) (zeros-split 32 265)
 
         pub pairs-room : 129 ≤ length three
-        pairs-room = enough (endsOf d ++ startsOf d ++ masksOf d) (zeros 128) 97 32 bytes-fourth (three-size d)
+        pairs-room = enough (endsOf d ++ startsOf d ++ masksOf d) (zeros 265) 97 32 bytes-fourth (three-size d)
 
         pub pairs-lent : take 32 (drop 97 three) ≡ replicate 32 0
-        pairs-lent = zeros-lent (endsOf d ++ startsOf d ++ masksOf d) (zeros 128) 97 32 bytes-fourth (three-size d)
+        pairs-lent = zeros-lent (endsOf d ++ startsOf d ++ masksOf d) (zeros 265) 97 32 bytes-fourth (three-size d)
 
-        pub bytes-laid : {pairs : List ℕ} → pairs ≡ pairsOf d → put 97 32 three pairs ≡ bytesOf d (replicate 128 0)
-        unfolding zeros
-        bytes-laid f =
-            table-back (endsOf d ++ startsOf d ++ masksOf d) (zeros 128) 97 32 bytes-fourth (three-size d) f ∙
-            sym (append-assoc (endsOf d ++ startsOf d ++ masksOf d) (pairsOf d) (zeros 128))
+        module _ {pairs : List ℕ} (f : pairs ≡ pairsOf d) where
+          abbrev four : List ℕ
+          four = put 97 32 three pairs
+
+          bytes-fifth : four ≡ endsOf d ++ startsOf d ++ masksOf d ++ pairsOf d ++ (zeros 137 ++ zeros 128)
+          unfolding zeros
+          bytes-fifth =
+              table-back (endsOf d ++ startsOf d ++ masksOf d) (zeros 265) 97 32 bytes-fourth (three-size d) f ∙
+              sym (append-assoc (endsOf d ++ startsOf d ++ masksOf d) (pairsOf d) (zeros 265)) ∙
+              ap (λ (l : List ℕ). endsOf d ++ startsOf d ++ masksOf d ++ pairsOf d ++ l) (zeros-split 137 128)
+
+          pub conflicts-room : 266 ≤ length four
+          conflicts-room = enough (endsOf d ++ startsOf d ++ masksOf d ++ pairsOf d) (zeros 128) 129 137 bytes-fifth (four-size d)
+
+          pub conflicts-lent : take 137 (drop 129 four) ≡ replicate 137 0
+          conflicts-lent = zeros-lent (endsOf d ++ startsOf d ++ masksOf d ++ pairsOf d) (zeros 128) 129 137 bytes-fifth (four-size d)
+
+          pub bytes-laid : {conflicts : List ℕ} → conflicts ≡ conflictsOf d → put 129 137 four conflicts ≡ bytesOf d (replicate 128 0)
+          unfolding zeros
+          bytes-laid g =
+              table-back (endsOf d ++ startsOf d ++ masksOf d ++ pairsOf d) (zeros 128) 129 137 bytes-fifth (four-size d) g ∙
+              sym (append-assoc (endsOf d ++ startsOf d ++ masksOf d ++ pairsOf d) (conflictsOf d) (zeros 128))

@@ -1,5 +1,6 @@
 pub mod Bits
 pub mod Built
+pub mod Conflicting
 pub mod EdgeSides
 pub mod Exchanging
 pub mod Filling
@@ -12,3 +13,4 @@ pub mod Ordering
 pub mod Paired
 pub mod Places
 pub mod RowTest
+pub mod Serving

@@ -1,4 +1,4 @@
--- The data between one writer and one reader: their two services are blocks.
+-- The data between one writer and one reader: their two services are blocks. With the conflicts they are what the tests of a placement ask.
 use Prim.Native.Nat.{ℕ, zero, suc, _+_, _*_, _/_, _%_, _<_}
 use native.Mathlib.Omega.{arith}
 use mathlib.Core.Path.{_≡_, refl, ap, ap₂, _∙_}
@@ -19,6 +19,7 @@ use Rattle.sequences.specs.Lists.{keep}
 use Rattle.sequences.proofs.Tests.{cond-ind}
 use Rattle.visit.specs.Tables.{Paired}
 use Rattle.tables.specs.Building.{isOf, onlyOf, only, ofPair, pairAt, pairsOf, exchangesOf, bytesOf, tablesOf}
+use Rattle.tables.proofs.Conflicting.{list-few, count-is, conflict-small}
 use Rattle.tables.proofs.Filling.{getD-tableTo}
 use Rattle.tables.proofs.Places.{pair-in}
 use Rattle.tables.proofs.Named.{service-block}
@@ -124,7 +125,7 @@ module _ (d : Description) (wf : WellFormed d) where
       let l : e .service < length (d .blocks) = (rw k at p) .0 in
       omega (arith, wf .limits .blocks)
 
-  -- writers and readers are blocks
+  -- writers and readers are blocks, and so are those that may not share a cloud
   pub paired : Paired (tablesOf d) (length (d .blocks))
   unfolding tablesOf
   paired = record {
@@ -132,6 +133,8 @@ module _ (d : Description) (wf : WellFormed d) where
         let first = first-of-pair (exchangesOf d) m l in
         rw (first, second-of-pair (exchangesOf d) m l)
         (both-low (length (d .blocks)) (only d Writes m) (only d Reads m) (low Writes m) (low Reads m) (rw first at h));
+    conflictsFew = rw (count-is d wf) (list-few d wf);
+    conflictsSmall = conflict-small d wf;
   }
 
   -- what has a writer and a reader is a datum

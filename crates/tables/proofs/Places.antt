@@ -6,7 +6,7 @@ use mathlib.Core.List.{List, [], _∷_, _++_}
 use lib.ListN.{length, getD, take, drop, length-append, List·getD-append}
 use lib.Seq.{getD-append-add, take-at, drop-at}
 use Rattle.description.specs.Format.{Description}
-use Rattle.tables.specs.Building.{ownOf, termsOf, endsOf, startsOf, masksOf, pairsOf, wordsOf, bytesOf}
+use Rattle.tables.specs.Building.{ownOf, termsOf, endsOf, startsOf, masksOf, pairsOf, conflictsOf, wordsOf, bytesOf}
 use Rattle.tables.proofs.Filling.{length-table}
 
 -- ---- two lists
@@ -46,15 +46,22 @@ module _ (d : Description) where
   unfolding pairsOf
   pairs-size = length-table 32 _
 
-  -- the first two, three and four tables of bytes
+  conflicts-size : length (conflictsOf d) ≡ 137
+  unfolding conflictsOf
+  conflicts-size = ap suc (length-table 136 _)
+
+  -- the first two, three, four and five tables of bytes
   pub two-size : length (endsOf d ++ startsOf d) ≡ 81
   two-size = omega (arith, length-append (endsOf d) (startsOf d), ends-size, starts-size)
 
   pub three-size : length (endsOf d ++ startsOf d ++ masksOf d) ≡ 97
   three-size = omega (arith, length-append (endsOf d ++ startsOf d) (masksOf d), two-size, masks-size)
 
-  four-size : length (endsOf d ++ startsOf d ++ masksOf d ++ pairsOf d) ≡ 129
+  pub four-size : length (endsOf d ++ startsOf d ++ masksOf d ++ pairsOf d) ≡ 129
   four-size = omega (arith, length-append (endsOf d ++ startsOf d ++ masksOf d) (pairsOf d), three-size, pairs-size)
+
+  five-size : length (endsOf d ++ startsOf d ++ masksOf d ++ pairsOf d ++ conflictsOf d) ≡ 266
+  five-size = omega (arith, length-append (endsOf d ++ startsOf d ++ masksOf d ++ pairsOf d) (conflictsOf d), four-size, conflicts-size)
 
   -- in the words
   pub own-in : (i : ℕ) → i < 128 → getD (wordsOf d) i 0 ≡ getD (ownOf d) i 0
@@ -63,10 +70,13 @@ module _ (d : Description) where
   pub term-in : (i : ℕ) → getD (wordsOf d) (128 + i) 0 ≡ getD (termsOf d) i 0
   term-in i = behind (ownOf d) (termsOf d) 128 i own-size
 
-  -- in the bytes, whatever lies behind the first four
+  -- in the bytes, whatever lies behind the first five
   module _ (last : List ℕ) where
+    in-five : (i : ℕ) → i < 266 → getD (bytesOf d last) i 0 ≡ getD (endsOf d ++ startsOf d ++ masksOf d ++ pairsOf d ++ conflictsOf d) i 0
+    in-five i h = in-front (endsOf d ++ startsOf d ++ masksOf d ++ pairsOf d ++ conflictsOf d) last 266 i five-size h
+
     in-four : (i : ℕ) → i < 129 → getD (bytesOf d last) i 0 ≡ getD (endsOf d ++ startsOf d ++ masksOf d ++ pairsOf d) i 0
-    in-four i h = in-front (endsOf d ++ startsOf d ++ masksOf d ++ pairsOf d) last 129 i four-size h
+    in-four i h = in-five i (omega arith) ∙ in-front (endsOf d ++ startsOf d ++ masksOf d ++ pairsOf d) (conflictsOf d) 129 i four-size h
 
     in-three : (i : ℕ) → i < 97 → getD (bytesOf d last) i 0 ≡ getD (endsOf d ++ startsOf d ++ masksOf d) i 0
     in-three i h = in-four i (omega arith) ∙ in-front (endsOf d ++ startsOf d ++ masksOf d) (pairsOf d) 97 i three-size h
@@ -86,12 +96,15 @@ module _ (d : Description) where
     pub pair-in : (i : ℕ) → i < 32 → getD (bytesOf d last) (97 + i) 0 ≡ getD (pairsOf d) i 0
     pair-in i h = in-four (97 + i) (omega arith) ∙ behind (endsOf d ++ startsOf d ++ masksOf d) (pairsOf d) 97 i three-size
 
-    pub last-in : (i : ℕ) → getD (bytesOf d last) (129 + i) 0 ≡ getD last i 0
-    last-in i = behind (endsOf d ++ startsOf d ++ masksOf d ++ pairsOf d) last 129 i four-size
+    pub conflict-in : (i : ℕ) → i < 137 → getD (bytesOf d last) (129 + i) 0 ≡ getD (conflictsOf d) i 0
+    conflict-in i h = in-five (129 + i) (omega arith) ∙ behind (endsOf d ++ startsOf d ++ masksOf d ++ pairsOf d) (conflictsOf d) 129 i four-size
 
-    pub last-part : drop 129 (bytesOf d last) ≡ last
-    last-part = drop-at (endsOf d ++ startsOf d ++ masksOf d ++ pairsOf d) last 129 four-size
+    pub last-in : (i : ℕ) → getD (bytesOf d last) (266 + i) 0 ≡ getD last i 0
+    last-in i = behind (endsOf d ++ startsOf d ++ masksOf d ++ pairsOf d ++ conflictsOf d) last 266 i five-size
+
+    pub last-part : drop 266 (bytesOf d last) ≡ last
+    last-part = drop-at (endsOf d ++ startsOf d ++ masksOf d ++ pairsOf d ++ conflictsOf d) last 266 five-size
 
     -- with another table behind them
-    pub other-last : (new : List ℕ) → take 129 (bytesOf d last) ++ new ≡ bytesOf d new
-    other-last new = ap (λ (l : List ℕ). l ++ new) (take-at (endsOf d ++ startsOf d ++ masksOf d ++ pairsOf d) last 129 four-size)
+    pub other-last : (new : List ℕ) → take 266 (bytesOf d last) ++ new ≡ bytesOf d new
+    other-last new = ap (λ (l : List ℕ). l ++ new) (take-at (endsOf d ++ startsOf d ++ masksOf d ++ pairsOf d ++ conflictsOf d) last 266 five-size)

@@ -1,10 +1,10 @@
 -- The tables of a description that a walk over its placements takes: where blocks may stand and what they are charged there, the edges
--- in the order of their later ends, and the data between one writer and one reader.
+-- in the order of their later ends, the data between one writer and one reader, and the blocks that may not share a cloud.
 use Prim.Native.Nat.{ℕ, zero, suc, _+_, _-_, _*_, _/_, _%_, _≤_, _<_}
 use mathlib.Core.Path.{_≡_}
 use mathlib.Core.Bool.{Bool, not, _&&_, _||_, cond}
 use mathlib.Core.List.{List, [], _∷_, _++_, map}
-use lib.Dec.{ltb, eqb}
+use lib.Dec.{ltb, leb, eqb}
 use lib.ListN.{length, getD, replicate}
 use Rattle.description.specs.declared.workflow.Block.{Block}
 use Rattle.description.specs.declared.workflow.Cloud.{Cloud}
@@ -13,10 +13,11 @@ use Rattle.description.specs.declared.workflow.Way.{Way}
 use Rattle.description.specs.declared.workflow.Way.the-variants.{Reads, Writes}
 use Rattle.description.specs.Format.{Description, cloud, block, edge, namesBlock, sameWay}
 use Rattle.security.specs.Soundness.{mayStand}
+use Rattle.security.specs.Conflicts.{serves, conflicts}
 use Rattle.costs.specs.Terms.{blockTerm, edgeTerm, serviceSide, datumSide}
 use Rattle.options.specs.Representatives.{exchanges}
-use Rattle.sequences.specs.Lists.{keep, below, before}
-use Rattle.visit.specs.Tables.{Tables, tables, masksFrom, pairsFrom, bit}
+use Rattle.sequences.specs.Lists.{any, keep, below, before}
+use Rattle.visit.specs.Tables.{Tables, tables, masksFrom, pairsFrom, mostConflicts, bit}
 use Rattle.weights.specs.Weights.{termLimit}
 
 -- an array of n entries
@@ -212,6 +213,30 @@ pairAt d i = ofPair (only d Writes (i / 2)) (only d Reads (i / 2)) (i % 2)
 unfoldable pub pairsOf : Description → List ℕ
 pairsOf d = tableTo 32 (2 * length (d .blocks)) (pairAt d)
 
+-- ---- blocks that may not share a cloud
+
+-- at n * 16 + u, 1 where block u is the service of an edge of datum n
+abbrev pub servedAt : List Edge → ℕ → ℕ
+servedAt es i = cond (any (serves (i / 16) (i % 16)) es) 1 0
+
+unfoldable pub servedOf : Description → List ℕ
+servedOf d = table 256 (servedAt (d .edges))
+
+-- blocks c / 16 and c % 16, the later one first or one twice, conflict
+abbrev pub isConflict : Description → ℕ → Bool
+isConflict d c = leb (c % 16) (c / 16) && (conflicts d (c / 16) (c % 16) || conflicts d (c % 16) (c / 16))
+
+-- those of the first n numbers; of all blocks
+abbrev pub conflictsTo : Description → (n : ℕ) → List ℕ
+conflictsTo d n = keep (isConflict d) (below n)
+
+unfoldable pub conflictList : Description → List ℕ
+conflictList d = conflictsTo d (length (d .blocks) * 16)
+
+-- how many they are, and then each, with 0 past the last
+unfoldable pub conflictsOf : Description → List ℕ
+conflictsOf d = length (conflictList d) ∷ table mostConflicts (λ i. getD (conflictList d) i 0)
+
 -- ---- data that would do better elsewhere
 
 -- Where datum i / 8, which stands on cloud i % 8, would do better: bit k says that it would on k. 0 where that block has not one writer and
@@ -243,7 +268,7 @@ wordsOf d = ownOf d ++ termsOf d
 
 -- with what lies behind the others
 abbrev pub bytesOf : Description → List ℕ → List ℕ
-bytesOf d exchanges = endsOf d ++ startsOf d ++ masksOf d ++ pairsOf d ++ exchanges
+bytesOf d exchanges = endsOf d ++ startsOf d ++ masksOf d ++ pairsOf d ++ conflictsOf d ++ exchanges
 
 unfoldable pub tablesOf : Description → Tables
 tablesOf d = tables (wordsOf d) (bytesOf d (exchangesOf d))

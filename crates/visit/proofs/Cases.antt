@@ -4,27 +4,21 @@ use native.Mathlib.Numerals.{add-one}
 use native.Mathlib.Omega.{arith}
 use mathlib.Core.Path.{_≡_, refl, ap, _∙_}
 use mathlib.Core.List.{List, [], _∷_, _++_}
-use mathlib.Core.Bool.{Bool, true, false, not, _&&_, _||_}
+use mathlib.Core.Bool.{Bool, true, false, not, _&&_, and-false, and-assoc, or-true}
 use lib.Dec.{ltb, eqb}
 use lib.ListN.{length, take, drop, getD, set}
 use lib.Seq.{sets-eq}
 use borrow.Author.Tests.{lt-ltb, le-ltb, lt-leb, le-leb, eq-eqb, eqb-true}
-use Rattle.weights.specs.Weights.{costLimit, isSecure, classOf}
+use Rattle.weights.specs.Weights.{isUnexposed}
+use Rattle.visit.specs.Tables.{Tests}
 use Rattle.visit.specs.Visits.{rowsAt, floorCostAt, floorPlaceAt, bestCostAt, bestPlaceAt, counting}
-use Rattle.visit.specs.Visits.{earlier, wanted, oneMore, counted, drawn, see, withRow, keepRow}
+use Rattle.visit.specs.Visits.{earlier, wanted, oneMore, classAt, passes, counted, drawn, see, withRow, keepRow}
+use Rattle.visit.proofs.Classes.{isRow}
 
 -- the second test counts only where the first finds the costs the same
 both : (t u : Bool) → (t ≡ true → u ≡ false) → (t && u) ≡ false
 both true u h = h refl
 both false u h = refl
-
-or-true : (t : Bool) → (t || true) ≡ true
-or-true true = refl
-or-true false = refl
-
-pub and-false : (t : Bool) → (t && false) ≡ false
-and-false true = refl
-and-false false = refl
 
 module _ (c p d q : ℕ) where
   pub not-earlier : d ≤ c → (c ≡ d → q ≤ p) → earlier c p d q ≡ false
@@ -59,59 +53,51 @@ module _ (s : List ℕ) (cost place : ℕ) where
 
 -- ---- a walk that draws
 
-module _ (weight place : ℕ) (row : Bool) (s : List ℕ) where
-  pub not-wanted : wanted s weight place ≡ false → drawn weight place row s ≡ s
+module _ (weight place : ℕ) (t : Tests) (s : List ℕ) where
+  pub not-wanted : wanted s weight place ≡ false → drawn weight place t s ≡ s
   unfolding drawn
   not-wanted h = rw h
 
-  pub no-row : row ≡ false → drawn weight place row s ≡ s
+  pub no-row : passes t ≡ false → drawn weight place t s ≡ s
   unfolding drawn
   no-row h = rw (h, and-false (wanted s weight place))
 
-  pub best-row : wanted s weight place ≡ true → row ≡ true → drawn weight place row s ≡ set (set s bestCostAt weight) bestPlaceAt place
+  pub best-row : wanted s weight place ≡ true → passes t ≡ true → drawn weight place t s ≡ set (set s bestCostAt weight) bestPlaceAt place
   unfolding drawn
   best-row h k = rw (h, k)
 
-  pub see-draws : counting s ≡ false → see weight place row s ≡ drawn weight place row s
+  pub see-draws : counting s ≡ false → see weight place t s ≡ drawn weight place t s
   unfolding see
   see-draws h = rw h
 
-  pub see-counts : counting s ≡ true → see weight place row s ≡ counted weight row s
+  pub see-counts : counting s ≡ true → see weight place t s ≡ counted weight t s
   unfolding see
   see-counts h = rw h
 
   -- a draw keeps no rows
-  pub none-kept : (words : List ℕ) → counting s ≡ false → keepRow weight place row s words ≡ words
+  pub none-kept : (words : List ℕ) → counting s ≡ false → keepRow weight place t s words ≡ words
   unfolding keepRow
   none-kept words h = rw h
 
 -- ---- a walk that counts
 
-module _ (weight : ℕ) (row : Bool) (s : List ℕ) where
-  pub counted-broken : costLimit ≤ weight → counted weight row s ≡ oneMore (classOf weight) s
+module _ (weight : ℕ) (t : Tests) (s : List ℕ) where
+  pub counted-other : isRow weight t ≡ false → counted weight t s ≡ oneMore (classAt weight t) s
   unfolding counted
-  counted-broken h = rw (le-ltb weight costLimit h)
+  counted-other h = rw h
 
-  pub counted-other : row ≡ false → counted weight row s ≡ oneMore (classOf weight) s
+  pub counted-row : isRow weight t ≡ true → counted weight t s ≡ oneMore rowsAt (oneMore (classAt weight t) s)
   unfolding counted
-  counted-other h = rw (h, and-false (isSecure weight))
+  counted-row h = rw h
 
-  pub counted-row : weight < costLimit → row ≡ true → counted weight row s ≡ oneMore rowsAt (oneMore (classOf weight) s)
-  unfolding counted
-  counted-row h k = rw (lt-ltb weight costLimit h, k)
-
-module _ (weight place : ℕ) (row : Bool) (s words : List ℕ) where
-  pub kept-broken : costLimit ≤ weight → keepRow weight place row s words ≡ words
+module _ (weight place : ℕ) (t : Tests) (s words : List ℕ) where
+  pub kept-other : isRow weight t ≡ false → keepRow weight place t s words ≡ words
   unfolding keepRow
-  kept-broken h = rw (le-ltb weight costLimit h, and-false (counting s))
+  kept-other h = rw (and-assoc (counting s) (isUnexposed weight) (passes t), h, and-false (counting s))
 
-  pub kept-other : row ≡ false → keepRow weight place row s words ≡ words
+  pub kept-row : counting s ≡ true → isRow weight t ≡ true → keepRow weight place t s words ≡ withRow (getD s rowsAt 0) weight place words
   unfolding keepRow
-  kept-other h = rw (h, and-false (counting s && isSecure weight))
-
-  pub kept-row : counting s ≡ true → weight < costLimit → row ≡ true → keepRow weight place row s words ≡ withRow (getD s rowsAt 0) weight place words
-  unfolding keepRow
-  kept-row c h k = rw (c, lt-ltb weight costLimit h, k)
+  kept-row c h = rw (c, h)
 
 -- ---- a row in lent words
 

@@ -1,4 +1,5 @@
 pub mod Cases
+pub mod Classes
 pub mod Counters
 pub mod Defined
 pub mod Drawing

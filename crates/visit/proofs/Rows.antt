@@ -1,4 +1,4 @@
--- The cases of the row test: which end a datum can move to. It looks at the bytes of the tables alone.
+-- The cases of the row test: which end a datum can move to. The tests look at the bytes of the tables alone.
 use Prim.Native.Nat.{ℕ, _+_, _*_, _/_, _%_, _^_, _≤_, _<_}
 use native.Mathlib.Omega.{arith}
 use mathlib.Core.Path.{_≡_, refl}
@@ -6,7 +6,7 @@ use mathlib.Core.Bool.{Bool, true, false}
 use mathlib.Core.List.{List, []}
 use lib.ListN.{getD}
 use borrow.Author.Tests.{lt-ltb, le-ltb, eq-eqb, ne-eqb}
-use Rattle.visit.specs.Tables.{Tables, tables, bit, pair, exchange, movesTo, betterOn, stands, Paired}
+use Rattle.visit.specs.Tables.{Tables, tables, bit, pair, exchange, apart, movesTo, betterOn, stands, Paired, testsOf}
 
 pub bit-off : (m k : ℕ) → m / 2 ^ k % 2 ≡ 0 → bit m k ≡ false
 unfolding bit
@@ -41,12 +41,12 @@ module _ (t : Tables) (q : List ℕ) (m : ℕ) where
     pub elsewhere : (a ≡ c → ⊥) → (getD q m 0 ≡ a → ⊥) → (getD q m 0 ≡ c → ⊥) → betterAway ≡ false
     elsewhere g h i = simp (lt-ltb (pair t (2 * m)) 16 paired, ← e, ← f, ne-eqb a c g, ne-eqb (getD q m 0) a h, ne-eqb (getD q m 0) c i)
 
--- ---- the words have no part in it
+-- ---- the words have no part in the tests
 
 module _ (words bytes : List ℕ) (n : ℕ) where
-  pub stands-bytes : (q : List ℕ) → stands (tables [] bytes) n q ≡ stands (tables words bytes) n q
-  unfolding stands
-  stands-bytes q = refl
+  pub tests-bytes : (q : List ℕ) → testsOf (tables [] bytes) n q ≡ testsOf (tables words bytes) n q
+  unfolding apart stands
+  tests-bytes q = refl
 
   pub paired-bytes : Paired (tables words bytes) n → Paired (tables [] bytes) n
-  paired-bytes p = record { pairsSmall = p .pairsSmall }
+  paired-bytes p = record { pairsSmall = p .pairsSmall; conflictsFew = p .conflictsFew; conflictsSmall = p .conflictsSmall }

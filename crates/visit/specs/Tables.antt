@@ -1,5 +1,5 @@
--- Tables of a problem: what each block adds to a placement's weight on each cloud, what each edge adds, where blocks may stand, and which
--- data would do better on which cloud. They lie one behind the other in lent words and lent bytes.
+-- Tables of a problem: what each block adds to a placement's weight on each cloud, what each edge adds, where blocks may stand, which of
+-- them may not share a cloud, and which data would do better on which cloud. They lie one behind the other in lent words and lent bytes.
 use Prim.Native.Nat.{ℕ, _+_, _*_, _/_, _%_, _^_, _≤_, _<_}
 use mathlib.Core.Path.{_≡_}
 use mathlib.Core.Bool.{Bool, false, not, cond}
@@ -38,8 +38,15 @@ masksFrom = 81
 abbrev pub pairsFrom : ℕ
 pairsFrom = 97
 
+abbrev pub conflictsFrom : ℕ
+conflictsFrom = 129
+
 abbrev pub exchangesFrom : ℕ
-exchangesFrom = 129
+exchangesFrom = 266
+
+-- two blocks of sixteen, the later one first, or one twice: so many there are
+abbrev pub mostConflicts : ℕ
+mostConflicts = 136
 
 -- bit k of m
 unfoldable pub bit : ℕ → ℕ → Bool
@@ -70,6 +77,13 @@ module _ (t : Tables) where
   abbrev pub pair : ℕ → ℕ
   pair i = getD (t .bytes) (pairsFrom + i) 0
 
+  -- how many conflicts there are; conflict i is of blocks u and v, as u * 16 + v: they may not stand on one cloud
+  abbrev pub conflictCount : ℕ
+  conflictCount = getD (t .bytes) conflictsFrom 0
+
+  abbrev pub conflict : ℕ → ℕ
+  conflict i = getD (t .bytes) (conflictsFrom + 1 + i) 0
+
   -- at m * 8 + h, bit k is set where datum m, which stands on h, would do better on k
   abbrev pub exchange : ℕ → ℕ
   exchange i = getD (t .bytes) (exchangesFrom + i) 0
@@ -95,6 +109,16 @@ module _ (t : Tables) where
   unfoldable pub weight : ℕ → List ℕ → ℕ
   weight n q = sum (map (ownTerm q) (below n)) + sum (map (edgeTerm q) (below (start n)))
 
+  -- ---- conflicts
+
+  -- the blocks of conflict i stand on one cloud
+  abbrev pub clashes : List ℕ → ℕ → Bool
+  clashes q i = eqb (getD q (conflict i / 16) 0) (getD q (conflict i % 16) 0)
+
+  -- no two blocks that may not share a cloud do
+  unfoldable pub apart : List ℕ → Bool
+  apart q = not (any (clashes q) (below conflictCount))
+
   -- ---- the row test
 
   -- where datum m, between one writer and one reader and on the cloud of one of the two, would still be in the same option: on the other's
@@ -110,10 +134,13 @@ module _ (t : Tables) where
   unfoldable pub stands : ℕ → List ℕ → Bool
   stands n q = not (any (λ m. betterOn q m (movesTo q m)) (below n))
 
-  -- What the row test asks of the tables of n blocks.
+  -- What the tests of a placement ask of the tables of n blocks.
   pub record Paired (n : ℕ) : Type 0 where
     -- writers and readers are blocks
     pub pairsSmall : (m : ℕ) → m < n → pair (2 * m) < 16 → (pair (2 * m) < n) × (pair (2 * m + 1) < n)
+    -- so are those that may not share a cloud
+    pub conflictsFew : conflictCount ≤ mostConflicts
+    pub conflictsSmall : (i : ℕ) → i < conflictCount → (conflict i / 16 < n) × (conflict i % 16 < n)
 
   -- What the walk asks of the tables of n blocks.
   pub record Ready (n : ℕ) : Type 0 where
@@ -131,6 +158,20 @@ module _ (t : Tables) where
     pub masked : (b : ℕ) → b < n → mask b < 256
     pub paired : Paired n
 
--- the row test of a packed placement looks at the bytes alone
+-- What the weight of a placement does not tell: whether no two blocks in conflict share a cloud, and whether it passes the row test.
+pub record Tests : Type 0 where
+  pub apart : Bool
+  pub stands : Bool
+
+abbrev pub testsOf : Tables → (n : ℕ) → List ℕ → Tests
+testsOf t n q = record { apart = apart t q; stands = stands t n q }
+
+-- of a packed placement; they look at the bytes of the tables alone
+abbrev pub apartIn : (bytes : List ℕ) (n place : ℕ) → Bool
+apartIn bytes n place = apart (tables [] bytes) (digits n place)
+
 abbrev pub standsIn : (bytes : List ℕ) (n place : ℕ) → Bool
 standsIn bytes n place = stands (tables [] bytes) n (digits n place)
+
+abbrev pub testsIn : (bytes : List ℕ) (n place : ℕ) → Tests
+testsIn bytes n place = record { apart = apartIn bytes n place; stands = standsIn bytes n place }

@@ -10,7 +10,8 @@ use mathlib.Core.Bool.{Bool, not, _&&_, _||_, cond}
 use mathlib.Core.List.{List}
 use lib.Dec.{ltb, leb, eqb}
 use lib.ListN.{length, getD, set}
-use Rattle.weights.specs.Weights.{isSecure, classOf}
+use Rattle.weights.specs.Weights.{isUnexposed, classOf, clashClass}
+use Rattle.visit.specs.Tables.{Tests}
 
 abbrev pub rowsAt : ℕ
 rowsAt = 4
@@ -65,17 +66,25 @@ wanted s cost place =
 abbrev pub oneMore : ℕ → List ℕ → List ℕ
 oneMore k s = set s k (getD s k 0 + 1)
 
--- a placement of a weight, which passes the row test or not, is counted in its class, and if it is a row among the rows
-unfoldable pub counted : (weight : ℕ) (stands : Bool) → List ℕ → List ℕ
-counted weight stands s = cond (isSecure weight && stands) (oneMore rowsAt (oneMore (classOf weight) s)) (oneMore (classOf weight) s)
+-- the class of a placement: by its weight, and where no edge breaks a rule, by the blocks that may not share a cloud
+abbrev pub classAt : (weight : ℕ) → Tests → ℕ
+classAt weight t = cond (isUnexposed weight && not (t .apart)) clashClass (classOf weight)
 
--- it is the best row, if it is wanted and passes the row test. What is broken weighs more than any best cost.
-unfoldable pub drawn : (weight place : ℕ) (stands : Bool) → List ℕ → List ℕ
-drawn weight place stands s = cond (wanted s weight place && stands) (set (set s bestCostAt weight) bestPlaceAt place) s
+-- a placement in which no edge breaks a rule is a row if it passes both tests
+abbrev pub passes : Tests → Bool
+passes t = t .apart && t .stands
+
+-- a placement of a weight is counted in its class, and if it is a row among the rows
+unfoldable pub counted : (weight : ℕ) → Tests → List ℕ → List ℕ
+counted weight t s = cond (isUnexposed weight && passes t) (oneMore rowsAt (oneMore (classAt weight t) s)) (oneMore (classAt weight t) s)
+
+-- it is the best row, if it is wanted and passes the tests. Where an edge breaks a rule it weighs more than any best cost.
+unfoldable pub drawn : (weight place : ℕ) → Tests → List ℕ → List ℕ
+drawn weight place t s = cond (wanted s weight place && passes t) (set (set s bestCostAt weight) bestPlaceAt place) s
 
 -- one placement more, packed as `place`
-unfoldable pub see : (weight place : ℕ) (stands : Bool) → List ℕ → List ℕ
-see weight place stands s = cond (counting s) (counted weight stands s) (drawn weight place stands s)
+unfoldable pub see : (weight place : ℕ) → Tests → List ℕ → List ℕ
+see weight place t s = cond (counting s) (counted weight t s) (drawn weight place t s)
 
 -- Rows in lent words, two words a row: the cost, then the packed placement. The words with one put in as row n, where they have room
 -- for it.
@@ -83,6 +92,6 @@ unfoldable pub withRow : (n cost place : ℕ) → List ℕ → List ℕ
 withRow n cost place words = cond (leb (n * 2 + 2) (length words)) (set (set words (n * 2) cost) (n * 2 + 1) place) words
 
 -- a walk that counts keeps each row behind those that it met before
-unfoldable pub keepRow : (weight place : ℕ) (stands : Bool) → List ℕ → List ℕ → List ℕ
-keepRow weight place stands s words =
-    cond (counting s && isSecure weight && stands) (withRow (getD s rowsAt 0) weight place words) words
+unfoldable pub keepRow : (weight place : ℕ) → Tests → List ℕ → List ℕ → List ℕ
+keepRow weight place t s words =
+    cond (counting s && isUnexposed weight && passes t) (withRow (getD s rowsAt 0) weight place words) words

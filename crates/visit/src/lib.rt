@@ -5,16 +5,20 @@ ghost use mathlib.Core.Bool.{true};
 ghost use mathlib.Core.List.{[]};
 ghost use Prim.Native.Nat.{_<_, _≤_};
 ghost use lib.ListN.{length};
-ghost use Rattle.weights.specs.Weights.{classOf};
-ghost use Rattle.visit.specs.Tables.{Paired, tables, standsIn};
-ghost use Rattle.visit.specs.Visits.{stateSize, counting, countLimit, tally, wanted, oneMore, counted, drawn, see, withRow, keepRow};
+ghost use Rattle.weights.specs.Weights.{classes};
+ghost use Rattle.visit.specs.Tables.{Paired, tables, testsIn};
+ghost use Rattle.visit.specs.Visits.{stateSize, counting, countLimit, tally, wanted, oneMore, classAt, counted, drawn, see, withRow, keepRow};
 
+pub mod conflicts;
 pub mod rowtest;
 pub mod tables;
 
+use conflicts::is_apart;
 use rowtest::stands;
 use tables::TableBytes;
+use weights::CLASHES;
 use weights::COST_LIMIT;
+use weights::SECURE;
 use weights::class_of;
 
 // What is asked of a walk and what it found, in words that it is lent: it goes down a long way, and carries no copy of them. The counters
@@ -56,13 +60,17 @@ fn is_wanted(state: &State, cost: u64, place: u64) -> bool
     true
 }
 
-// A walk that draws: the placement is the best row from there on, if it is wanted and stands for its option.
+// A walk that draws: the placement is the best row from there on, if it is wanted, no two blocks in conflict share a cloud, and it stands for
+// its option.
 fn draw(bytes: &TableBytes, blocks: usize, weight: u64, place: u64, state: &mut State)
     requires { ⌜ length (now state) ≡ stateSize ⌝ }
     requires { ⌜ (blocks ≤ 16) × Paired (tables [] (now bytes)) blocks ⌝ }
-    ensures { λ _. ⌜ now (state .exit) ≡ drawn weight place (standsIn (now (bytes .entry)) blocks place) (now (state .entry)) ⌝ }
+    ensures { λ _. ⌜ now (state .exit) ≡ drawn weight place (testsIn (now (bytes .entry)) blocks place) (now (state .entry)) ⌝ }
 {
     if !is_wanted(state, weight, place) {
+        return;
+    }
+    if !is_apart(bytes, blocks, place) {
         return;
     }
     if !stands(bytes, blocks, place) {
@@ -85,12 +93,25 @@ fn keep(n: u64, cost: u64, place: u64, kept: &mut [u64])
     kept[at + 1] = place;
 }
 
-// One more of a class.
-fn count_class(weight: u64, state: &mut State)
-    requires { ⌜ (length (now state) ≡ stateSize) × (tally (now state) < countLimit) ⌝ }
-    ensures { λ _. ⌜ now (state .exit) ≡ oneMore (classOf weight) (now (state .entry)) ⌝ }
+// The class of a placement. Conflicts are looked at only where no edge breaks a rule.
+fn class_at(bytes: &TableBytes, blocks: usize, weight: u64, place: u64) -> usize
+    requires { ⌜ (blocks ≤ 16) × Paired (tables [] (now bytes)) blocks ⌝ }
+    ensures { λ r. ⌜ (r ≡ classAt weight (testsIn (now (bytes .entry)) blocks place)) × (r < classes) ⌝ }
 {
-    let class = class_of(weight);
+    if COST_LIMIT <= weight {
+        return class_of(weight);
+    }
+    if is_apart(bytes, blocks, place) {
+        return SECURE;
+    }
+    CLASHES
+}
+
+// One more of a class.
+fn count_class(class: usize, state: &mut State)
+    requires { ⌜ (length (now state) ≡ stateSize) × (tally (now state) < countLimit) × (class < classes) ⌝ }
+    ensures { λ _. ⌜ now (state .exit) ≡ oneMore class (now (state .entry)) ⌝ }
+{
     state[class] += 1;
 }
 
@@ -106,12 +127,13 @@ fn count(
     requires { ⌜ (length (now state) ≡ stateSize) × (tally (now state) < countLimit) ⌝ }
     requires { ⌜ (blocks ≤ 16) × Paired (tables [] (now bytes)) blocks ⌝ }
     requires { ⌜ counting (now state) ≡ true ⌝ }
-    ensures { λ _. ⌜ now (state .exit) ≡ counted weight (standsIn (now (bytes .entry)) blocks place) (now (state .entry)) ⌝ }
-    ensures { λ _. ⌜ now (kept .exit) ≡ keepRow weight place (standsIn (now (bytes .entry)) blocks place) (now (state .entry)) (now (kept .entry)) ⌝ }
+    ensures { λ _. ⌜ now (state .exit) ≡ counted weight (testsIn (now (bytes .entry)) blocks place) (now (state .entry)) ⌝ }
+    ensures { λ _. ⌜ now (kept .exit) ≡ keepRow weight place (testsIn (now (bytes .entry)) blocks place) (now (state .entry)) (now (kept .entry)) ⌝ }
 {
     let rows = state[ROWS];
-    count_class(weight, state);
-    if COST_LIMIT <= weight {
+    let class = class_at(bytes, blocks, weight, place);
+    count_class(class, state);
+    if class != SECURE {
         return;
     }
     if !stands(bytes, blocks, place) {
@@ -132,8 +154,8 @@ fn count_or_draw(
 )
     requires { ⌜ (length (now state) ≡ stateSize) × (tally (now state) < countLimit) ⌝ }
     requires { ⌜ (blocks ≤ 16) × Paired (tables [] (now bytes)) blocks ⌝ }
-    ensures { λ _. ⌜ now (state .exit) ≡ see weight place (standsIn (now (bytes .entry)) blocks place) (now (state .entry)) ⌝ }
-    ensures { λ _. ⌜ now (kept .exit) ≡ keepRow weight place (standsIn (now (bytes .entry)) blocks place) (now (state .entry)) (now (kept .entry)) ⌝ }
+    ensures { λ _. ⌜ now (state .exit) ≡ see weight place (testsIn (now (bytes .entry)) blocks place) (now (state .entry)) ⌝ }
+    ensures { λ _. ⌜ now (kept .exit) ≡ keepRow weight place (testsIn (now (bytes .entry)) blocks place) (now (state .entry)) (now (kept .entry)) ⌝ }
 {
     if state[COUNTING] == 1 {
         count(bytes, blocks, weight, place, state, kept);
@@ -153,8 +175,8 @@ pub fn meet(
 )
     requires { ⌜ (length (now state) ≡ stateSize) × (tally (now state) < countLimit) ⌝ }
     requires { ⌜ (blocks ≤ 16) × Paired (tables [] (now bytes)) blocks ⌝ }
-    ensures { λ _. ⌜ now (state .exit) ≡ see weight place (standsIn (now (bytes .entry)) blocks place) (now (state .entry)) ⌝ }
-    ensures { λ _. ⌜ now (kept .exit) ≡ keepRow weight place (standsIn (now (bytes .entry)) blocks place) (now (state .entry)) (now (kept .entry)) ⌝ }
+    ensures { λ _. ⌜ now (state .exit) ≡ see weight place (testsIn (now (bytes .entry)) blocks place) (now (state .entry)) ⌝ }
+    ensures { λ _. ⌜ now (kept .exit) ≡ keepRow weight place (testsIn (now (bytes .entry)) blocks place) (now (state .entry)) (now (kept .entry)) ⌝ }
 {
     if state[COUNTING] != 1 {
         if state[BEST_COST] < weight {

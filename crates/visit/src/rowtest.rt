@@ -5,13 +5,11 @@ ghost use Prim.Native.Nat.{_*_, _+_, _≤_, _<_};
 ghost use Rattle.packing.specs.Packing.{digits};
 ghost use Rattle.visit.specs.Tables.{Paired, tables, bit, exchange, betterOn, movesTo, standsIn};
 use crate::tables::EXCHANGES;
+use crate::tables::MOST_BLOCKS;
 use crate::tables::PAIRS;
 use crate::tables::TableBytes;
 use packing::cloud_in;
 use sequences::wide;
-
-// There are no more blocks. A datum without one writer and one reader has numbers from here on for them.
-const MOST_BLOCKS: usize = 16;
 
 // Datum m, which stands on `here`, would do better on `there`.
 fn is_better(bytes: &TableBytes, m: usize, here: usize, there: usize) -> bool
@@ -22,7 +20,7 @@ fn is_better(bytes: &TableBytes, m: usize, here: usize, there: usize) -> bool
     (better >> there) % 2 == 1
 }
 
-// Block m is a datum that would do better at its other end.
+// Block m is a datum that would do better at its other end. One without one writer and one reader has numbers for them that no block has.
 fn moves(bytes: &TableBytes, blocks: usize, place: u64, m: usize) -> bool
     requires { ⌜ (blocks ≤ 16) × (m < blocks) ⌝ }
     requires { ⌜ Paired (tables [] (now bytes)) blocks ⌝ }

@@ -1,3 +1,6 @@
+// There are no more blocks.
+pub const MOST_BLOCKS: usize = 16;
+
 // Where each table lies in the lent words and bytes; the same as in specs/Tables.antt.
 pub const OWN: usize = 0;
 
@@ -13,9 +16,11 @@ pub const MASKS: usize = 81;
 
 pub const PAIRS: usize = 97;
 
-pub const EXCHANGES: usize = 129;
+pub const CONFLICTS: usize = 129;
 
-pub const TABLE_BYTES: usize = 257;
+pub const EXCHANGES: usize = 266;
+
+pub const TABLE_BYTES: usize = 394;
 
 pub type TableWords = [u64; TABLE_WORDS];
 

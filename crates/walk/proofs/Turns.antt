@@ -4,16 +4,16 @@ use native.Mathlib.Nat.{pow-suc, pow-le-pow-right, suc-mul, mul-le-mul-right, su
 use native.Mathlib.Numerals.{add-one}
 use native.Mathlib.Omega.{arith}
 use mathlib.Core.Path.{_≡_, refl, sym, ap, ap₂, _∙_}
-use mathlib.Core.Bool.{Bool, true, false}
+use mathlib.Core.Bool.{true, false}
 use mathlib.Core.List.{List, [], _∷_, foldl, foldl-append}
 use lib.ListN.{length}
 use Rattle.sequences.specs.Lists.{below}
 use Rattle.packing.specs.Packing.{digits}
 use Rattle.packing.proofs.Digits.{digits-none, digits-length, digits-snoc, pack-digits}
-use Rattle.visit.specs.Tables.{Tables, mask, allowed, weight, stands, standsIn, placements, Ready}
+use Rattle.visit.specs.Tables.{Tables, mask, allowed, weight, placements, Ready, Tests, testsOf, testsIn}
 use Rattle.visit.specs.Visits.{stateSize, counterCount, tally, see, keepRow}
 use Rattle.visit.proofs.Counters.{see-tally}
-use Rattle.visit.proofs.Rows.{bit-off, bit-on, stands-bytes}
+use Rattle.visit.proofs.Rows.{bit-off, bit-on, tests-bytes}
 use Rattle.visit.proofs.Defined.{placements-of, weight-of}
 use Rattle.walk.specs.Walking.{Sight, seeAt, seeAll, keepAt, keepAll}
 use Rattle.walk.specs.Turning.{Setting, Carried, completions, branches, seeThese, Under, Walked}
@@ -72,20 +72,20 @@ module _ (S : Setting) where
   -- what meeting a placement does
   abbrev met : (w place : ℕ) → Sight → Sight
   met w place s =
-      let st = standsIn (S .table .bytes) (S .blocks) place in
-      (see w place st (s .0), keepRow w place st (s .0) (s .1))
+      let t = testsIn (S .table .bytes) (S .blocks) place in
+      (see w place t (s .0), keepRow w place t (s .0) (s .1))
 
   leaf : (w place : ℕ) (s r : Sight) → length (s .0) ≡ stateSize → Under S (S .blocks) 0 w place → r ≡ met w place s
       → Walked S s 0 (completions S 0 (digits (S .blocks) place)) r
   unfolding seeThese
   leaf w place s r size u h =
       let q = digits (S .blocks) place in
-      let both : ℕ → ℕ → Bool → Sight = λ x y z. (see x y z (s .0), keepRow x y z (s .0) (s .1)) in
+      let both : ℕ → ℕ → Tests → Sight = λ x y z. (see x y z (s .0), keepRow x y z (s .0) (s .1)) in
       record {
-        same = h ∙ ap₂ (λ x z. both x place z) (u .carried) (stands-bytes (S .table .words) (S .table .bytes) (S .blocks) q)
-            ∙ ap (λ y. both (weight (S .table) (S .blocks) q) y (stands (S .table) (S .blocks) q)) (sym (pack-digits (S .blocks) place (u .low)))
+        same = h ∙ ap₂ (λ x z. both x place z) (u .carried) (tests-bytes (S .table .words) (S .table .bytes) (S .blocks) q)
+            ∙ ap (λ y. both (weight (S .table) (S .blocks) q) y (testsOf (S .table) (S .blocks) q)) (sym (pack-digits (S .blocks) place (u .low)))
             ∙ ap (seeThese S s) (sym (completions-none S q));
-        counted = rw h (see-tally w place (standsIn (S .table .bytes) (S .blocks) place) (s .0) size);
+        counted = rw h (see-tally w place (testsIn (S .table .bytes) (S .blocks) place) (s .0) size);
       }
 
   pub leaf-walked : (left w place : ℕ) (s r : Sight) → left ≡ 0 → length (s .0) ≡ stateSize → Under S (S .blocks - left) left w place → r ≡ met w place s

@@ -2,12 +2,12 @@
 use Prim.Native.Nat.{ℕ}
 use mathlib.Core.List.{List, foldl}
 use Rattle.packing.specs.Packing.{pack}
-use Rattle.visit.specs.Tables.{Tables, placements, weight, stands}
+use Rattle.visit.specs.Tables.{Tables, placements, weight, testsOf}
 use Rattle.visit.specs.Visits.{see, keepRow}
 
 -- a placement of n blocks is seen
 abbrev pub seeAt : Tables → (n : ℕ) → List ℕ → List ℕ → List ℕ
-seeAt t n s q = see (weight t n q) (pack q) (stands t n q) s
+seeAt t n s q = see (weight t n q) (pack q) (testsOf t n q) s
 
 -- all placements are seen, one after the other
 unfoldable pub seeAll : Tables → (n : ℕ) → List ℕ → List ℕ
@@ -18,7 +18,7 @@ abbrev pub Sight : Type 0
 Sight = List ℕ × List ℕ
 
 abbrev pub keepAt : Tables → (n : ℕ) → Sight → List ℕ → Sight
-keepAt t n v q = (seeAt t n (v .0) q, keepRow (weight t n q) (pack q) (stands t n q) (v .0) (v .1))
+keepAt t n v q = (seeAt t n (v .0) q, keepRow (weight t n q) (pack q) (testsOf t n q) (v .0) (v .1))
 
 -- the lent words after all placements were seen
 unfoldable pub keepAll : Tables → (n : ℕ) → List ℕ → List ℕ → List ℕ

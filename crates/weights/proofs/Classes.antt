@@ -5,7 +5,7 @@ use mathlib.Core.Path.{_≡_, refl}
 use mathlib.Core.Bool.{Bool, true, false, cond}
 use lib.Dec.{eqb}
 use borrow.Author.Tests.{lt-ltb, le-ltb, eq-eqb, ne-eqb}
-use Rattle.weights.specs.Weights.{costLimit, radix, classes, isSecure, classOf}
+use Rattle.weights.specs.Weights.{costLimit, radix, clashClass, isUnexposed, classOf}
 
 module _ (w : ℕ) where
   pub class-light : w < costLimit → classOf w ≡ 0
@@ -20,21 +20,22 @@ module _ (w : ℕ) where
   unfolding classOf
   class-second h k = rw (le-ltb w costLimit h, eq-eqb (w / costLimit % radix) 0 k)
 
-  -- secure is class 0
-  pub class-secure : eqb (classOf w) 0 ≡ isSecure w
+  -- in class 0 no edge breaks a rule: whether anything else is broken, the weight does not tell
+  pub class-unexposed : eqb (classOf w) 0 ≡ isUnexposed w
   unfolding classOf
-  class-secure = go (isSecure w) (eqb (w / costLimit % radix) 0)
+  class-unexposed = go (isUnexposed w) (eqb (w / costLimit % radix) 0)
     where
       go : (a b : Bool) → eqb (cond a 0 (cond b 2 1)) 0 ≡ a
       go true b = refl
       go false true = refl
       go false false = refl
 
-  pub class-low : classOf w < classes
+  -- nor does it tell the last class
+  pub class-low : classOf w < clashClass
   unfolding classOf
-  class-low = go (isSecure w) (eqb (w / costLimit % radix) 0)
+  class-low = go (isUnexposed w) (eqb (w / costLimit % radix) 0)
     where
-      go : (a b : Bool) → cond a 0 (cond b 2 1) < classes
+      go : (a b : Bool) → cond a 0 (cond b 2 1) < clashClass
       go true b = omega arith
       go false true = omega arith
       go false false = omega arith

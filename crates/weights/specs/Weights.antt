@@ -23,14 +23,21 @@ secondPenalty = radix * costLimit
 abbrev pub termLimit : ℕ
 termLimit = (radix + 1) * costLimit
 
--- a weight below the limit is the cost of a secure placement
-abbrev pub isSecure : ℕ → Bool
-isSecure w = ltb w costLimit
+-- a weight below the limit is the cost of a placement in which no edge breaks a rule
+abbrev pub isUnexposed : ℕ → Bool
+isUnexposed w = ltb w costLimit
 
--- The class of a placement: 0 where it is secure, 1 where it breaks the rule that is looked for first, 2 where it breaks the other alone.
--- There is room for one class more.
+-- The class of a placement: 0 where it is secure, 1 where it breaks the rule that is looked for first, 2 where it breaks the other alone, and
+-- 3 where it breaks neither and is not secure, which no edge decides and the weight does not tell.
 abbrev pub classes : ℕ
 classes = 4
 
+abbrev pub secureClass : ℕ
+secureClass = 0
+
+abbrev pub clashClass : ℕ
+clashClass = 3
+
+-- by the weight alone
 unfoldable pub classOf : ℕ → ℕ
-classOf w = cond (isSecure w) 0 (cond (eqb (w / costLimit % radix) 0) 2 1)
+classOf w = cond (isUnexposed w) 0 (cond (eqb (w / costLimit % radix) 0) 2 1)

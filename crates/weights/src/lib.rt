@@ -14,16 +14,18 @@ pub const FIRST_PENALTY: u64 = COST_LIMIT;
 
 pub const SECOND_PENALTY: u64 = 297237575406452736;
 
-// The classes of placements. There is room for one more, and then the number of classes.
+// The classes of placements, and their number. No weight tells the last class, of placements that break what no single edge decides.
 pub const SECURE: usize = 0;
 
 pub const BREAKS_FIRST: usize = 1;
 
 pub const BREAKS_SECOND: usize = 2;
 
+pub const CLASHES: usize = 3;
+
 pub const CLASSES: usize = 4;
 
-// The class of a placement, by its weight.
+// The class of a placement, by its weight alone.
 pub fn class_of(weight: u64) -> usize
     ensures { λ r. ⌜ (r ≡ classOf weight) × (r < classes) ⌝ }
 {

@@ -109,16 +109,23 @@ impl<'a> Input<'a> {
             ("8 clouds", described.clouds.len() == 8),
             ("16 blocks", described.blocks.len() == 16),
             ("32 edges", described.edges.len() == 32),
+            ("pairs", !described.apart.is_empty()),
+            ("8 pairs", described.apart.len() == 8),
             ("65,536 candidates", candidates == 65_536),
             ("65,536 walked", candidates == 65_536 && walks),
             ("no candidates", candidates == 0),
             ("no rows", walks && candidates > 0 && self.rows.is_empty()),
             ("three amounts", self.rows.iter().any(has_three_amounts)),
         ];
-        for (name, _) in shown.into_iter().filter(|(_, holds)| *holds) {
+        self.show(&shown);
+        walks
+    }
+
+    /// Counts what holds of the description.
+    fn show(&mut self, traits: &[(&'static str, bool)]) {
+        for (name, _) in traits.iter().filter(|(_, holds)| *holds) {
             self.tally.shown(name);
         }
-        walks
     }
 
     fn described(&self) -> Result<&Description, Refusal> {
@@ -185,18 +192,29 @@ impl<'a> Input<'a> {
     }
 
     fn census(&mut self) -> Agreed {
-        let mut figures = Lent::<u64>::new(self.random, 5);
-        let mut merged = false;
+        let mut figures = Lent::<u64>::new(self.random, 6);
+        let mut shown = Vec::new();
         let reference = self.described().map(|described| {
             let c = described.census(&self.rows);
-            merged = c.options < c.secure;
-            let [broken_16, broken_17] = [c.breaking_16, c.breaking_17_only];
-            figures.expect(&[c.candidates, broken_16, broken_17, c.secure, c.options]);
+            let [merges, meet] = [c.options < c.secure, c.apart_only > 0];
+            let has_pairs = !described.apart.is_empty();
+            shown = vec![
+                ("merged options", merges),
+                ("merged options with pairs", merges && has_pairs),
+                ("pairs broken", meet),
+                ("pairs broken and kept", meet && c.secure > 0),
+            ];
+            figures.expect(&[
+                c.candidates,
+                c.breaking_16,
+                c.breaking_17_only,
+                c.apart_only,
+                c.secure,
+                c.options,
+            ]);
             "counts"
         });
-        if merged {
-            self.tally.shown("merged options");
-        }
+        self.show(&shown);
         let library = engine::census(self.text.get(), figures.lend_array());
         let case = Case {
             call: Call::Census,

@@ -2,7 +2,7 @@
 
 use reference::random::Random;
 
-use crate::text::{Plan, READS, Text, WRITES, commands};
+use crate::text::{APART, Plan, READS, Text, WRITES, commands};
 
 #[derive(Clone, Copy, PartialEq, Eq, PartialOrd, Ord, Debug)]
 pub enum Kind {
@@ -29,6 +29,7 @@ fn sound(random: &mut Random) -> Vec<u8> {
         blocks: random.pick(&[1, 2, 3, 3, 4, 4, 5, 5, 6, 7, 9, 12]),
         edges: random.below(12),
         pins: random.pick(&[0, 0, 0, 1, 2]),
+        pairs: random.pick(&[0, 0, 1, 1, 2]),
         candidates: random.pick(&[8, 16, 32, 64, 64, 256]),
         highest: random.pick(&[0, 1, 1, 2, 3, 15]),
         lawless: 40,
@@ -46,6 +47,7 @@ fn pipe(random: &mut Random) -> Vec<u8> {
     let clouds: Vec<u8> = (0..clouds).map(|_| level(0)).collect();
     let blocks: Vec<u8> = (0..length).map(|_| level(1)).collect();
     let more_readers = random.pick(&[0, 0, 1]);
+    let kept_apart = random.pick(&[false, false, true]);
     let mut text = Text::new(random);
     for level in clouds {
         text.cloud(level);
@@ -66,17 +68,24 @@ fn pipe(random: &mut Random) -> Vec<u8> {
     for _ in 0..more_readers {
         text.edge(READS, true);
     }
+    if kept_apart {
+        // A datum by itself, and one of the pipe's that it may not meet.
+        text.datum(0);
+        text.pair([length as u8, 1]);
+    }
     text.tame(81);
     text.end()
 }
 
 fn boundary(random: &mut Random) -> Vec<u8> {
-    match random.below(8) {
+    match random.below(10) {
         0 => without_some(random),
         1 => many_clouds(random),
         2 => many_blocks(random),
         3 => many_edges(random),
         4 | 5 => high_levels(random),
+        6 => many_pairs(random),
+        7 => odd_pairs(random),
         _ => many_candidates(random),
     }
 }
@@ -87,6 +96,7 @@ fn calm_plan(clouds: usize, blocks: usize) -> Plan {
         blocks,
         edges: 4,
         pins: 0,
+        pairs: 0,
         candidates: 64,
         highest: 2,
         lawless: 1000,
@@ -130,6 +140,46 @@ fn many_edges(random: &mut Random) -> Vec<u8> {
     text.end()
 }
 
+/// Eight pairs, or one too many, of enough data.
+fn many_pairs(random: &mut Random) -> Vec<u8> {
+    let plan = Plan {
+        edges: random.below(3),
+        pairs: random.pick(&[8, 8, 9]),
+        highest: random.pick(&[0, 0, 1]),
+        ..calm_plan(random.pick(&[2, 3, 4, 8]), 10 + random.below(6))
+    };
+    Text::new(random).by(&plan)
+}
+
+/// A pair more that names a datum twice, a service, what is not declared, or a pair that is there.
+fn odd_pairs(random: &mut Random) -> Vec<u8> {
+    let plan = Plan {
+        pairs: random.pick(&[1, 2, 7, 8]),
+        ..calm_plan(2, 6 + random.below(6))
+    };
+    let mut text = Text::new(random).by(&plan);
+    let pairs: Vec<[u8; 2]> = commands(&text)
+        .into_iter()
+        .filter(|command| text[command.start] == APART)
+        .map(|command| [text[command.start + 1], text[command.start + 2]])
+        .collect();
+    let [one, other] = match pairs.as_slice() {
+        [] => [0, 0],
+        pairs => random.pick(pairs),
+    };
+    let names = match random.below(6) {
+        0 => [one, one],
+        1 => [one, other],
+        2 => [other, one],
+        3 => [one, random.below(20) as u8],
+        4 => [random.below(20) as u8, other],
+        _ => [random.byte(), random.byte()],
+    };
+    let end = text.len() - 1;
+    insert(&mut text, end, &[APART, names[0], names[1]]);
+    text
+}
+
 /// One level, location or clearance is 15 or 16.
 fn high_levels(random: &mut Random) -> Vec<u8> {
     let mut text = sound(random);
@@ -165,6 +215,7 @@ fn many_candidates(random: &mut Random) -> Vec<u8> {
     let mut factors = random.pick(&FACTORS).to_vec();
     random.shuffle(&mut factors);
     let fits_nowhere = random.one_in(10);
+    let pairs = random.pick(&[0, 0, 1, 2]);
     let mut text = Text::new(random);
     for level in 0..8 {
         text.cloud(level);
@@ -181,6 +232,9 @@ fn many_candidates(random: &mut Random) -> Vec<u8> {
     }
     for way in [READS, WRITES, READS, WRITES, READS, READS] {
         text.edge(way, false);
+    }
+    for _ in 0..pairs {
+        text.pair_any();
     }
     text.end()
 }
@@ -235,8 +289,9 @@ fn some_start(random: &mut Random, text: &[u8]) -> usize {
 }
 
 fn insert_command(random: &mut Random, text: &mut Vec<u8>) {
-    let command = random.below(8) as u8;
-    let width = [1, 10, 6, 7, 3, 3, 3, 2][usize::from(command)];
+    // Of these 08 is no command.
+    let command = random.below(9) as u8;
+    let width = [1, 10, 6, 7, 3, 3, 3, 3, 2][usize::from(command)];
     let mut bytes = vec![command];
     bytes.extend((1..width).map(|_| random.below(4) as u8));
     insert(text, some_start(random, text), &bytes);
@@ -256,8 +311,8 @@ fn repeat_command(random: &mut Random, text: &mut Vec<u8>) {
 fn telling_byte(random: &mut Random) -> u8 {
     match random.below(3) {
         0 => random.byte(),
-        1 => random.pick(&[7, 8, 15, 16, 17, 31, 32, 255]),
-        _ => random.below(7) as u8,
+        1 => random.pick(&[7, 8, 9, 15, 16, 17, 31, 32, 255]),
+        _ => random.below(8) as u8,
     }
 }
 
@@ -272,7 +327,7 @@ fn garbage(random: &mut Random) -> Vec<u8> {
         1..8 => random.below(3),
         _ => random.below(60),
     };
-    let highest = random.pick(&[2, 7, 7, 16, 256]);
+    let highest = random.pick(&[2, 8, 8, 16, 256]);
     (0..length).map(|_| random.below(highest) as u8).collect()
 }
 
@@ -281,16 +336,17 @@ mod tests {
     use super::*;
     use reference::description::read;
 
-    /// What the reference says of so many texts: how many clouds, blocks, edges and candidates, or
-    /// the number of the refusal.
-    fn seen(make: fn(&mut Random) -> Vec<u8>, times: usize) -> Vec<Result<[u64; 4], u8>> {
+    /// What the reference says of so many texts: how many clouds, blocks, edges, candidates and
+    /// pairs, or the number of the refusal.
+    fn seen(make: fn(&mut Random) -> Vec<u8>, times: usize) -> Vec<Result<[u64; 5], u8>> {
         let mut random = Random::new(1);
         let mut look = || {
             let described = read(&make(&mut random)).map_err(|refusal| refusal.number)?;
             let [clouds, blocks] = [described.clouds.len(), described.blocks.len()];
-            let counts = [clouds, blocks, described.edges.len()].map(|count| count as u64);
-            let [clouds, blocks, edges] = counts;
-            Ok([clouds, blocks, edges, described.candidate_count()])
+            let [edges, pairs] = [described.edges.len(), described.apart.len()];
+            let [clouds, blocks, edges, pairs] =
+                [clouds, blocks, edges, pairs].map(|count| count as u64);
+            Ok([clouds, blocks, edges, described.candidate_count(), pairs])
         };
         (0..times).map(|_| look()).collect()
     }
@@ -329,8 +385,38 @@ mod tests {
         let edges = seen(many_edges, 100);
         assert!(edges.contains(&Err(4)));
         assert!(edges.iter().flatten().any(|counts| counts[2] == 32));
+        let pairs = seen(many_pairs, 100);
+        assert!(pairs.contains(&Err(4)));
+        assert!(pairs.iter().flatten().any(|counts| counts[4] == 8));
         assert!(seen(high_levels, 300).contains(&Err(5)));
         assert_eq!(seen(without_some, 20), [Err(8); 20]);
+    }
+
+    #[test]
+    fn odd_pairs_meet_every_number_of_their_command() {
+        let seen = seen(odd_pairs, 500);
+        for number in [4, 6, 7] {
+            let times = seen.iter().filter(|seen| **seen == Err(number)).count();
+            assert!(times > 10, "{number}: {times}");
+        }
+    }
+
+    /// Of the candidates that keep rules 16 and 17 a good part breaks a pair and a good part keeps
+    /// all of them, so that number 17 and rows with pairs are both met.
+    #[test]
+    fn pairs_are_broken_and_kept() {
+        let mut random = Random::new(1);
+        let (mut with_pairs, mut both) = (0, 0);
+        for _ in 0..1000 {
+            let Ok(described) = read(&sound(&mut random)) else {
+                continue;
+            };
+            with_pairs += u32::from(!described.apart.is_empty());
+            let census = described.census(&[]);
+            both += u32::from(census.apart_only > 0 && census.secure > 0);
+        }
+        assert!(with_pairs > 300, "{with_pairs}");
+        assert!(both > 100, "{both}");
     }
 
     #[test]

@@ -30,8 +30,8 @@ impl Call {
     fn numbers(self) -> impl Iterator<Item = u8> {
         let (range, more): (RangeInclusive<u8>, _) = match self {
             Call::Read | Call::Census | Call::Draw => (1..=12, None),
-            Call::Judge => (1..=15, None),
-            Call::Transfers => (1..=16, None),
+            Call::Judge => (1..=15, Some(17)),
+            Call::Transfers => (1..=17, None),
             Call::List => (1..=12, Some(16)),
         };
         range.chain(more)
@@ -103,12 +103,12 @@ impl Tally {
             let own = self.answers.iter().filter(|((c, _), _)| *c == call);
             let answers = own.map(|((_, answer), count)| (*answer, *count)).collect();
             let answers = joined(&answers, |answer| answer.to_string());
-            let numbers = (1..=16).map(|n| (n, self.refusals_of(call, n)));
+            let numbers = (1..=17).map(|n| (n, self.refusals_of(call, n)));
             let refusals = numbers.filter(|(_, count)| *count > 0).collect();
             let refusals = joined(&refusals, |number: &u8| number.to_string());
             println!("| {call:?} | {answers} | {refusals} |");
         }
-        let all = (1..=16).map(|n| (n, Call::ALL.map(|c| self.refusals_of(c, n)).iter().sum()));
+        let all = (1..=17).map(|n| (n, Call::ALL.map(|c| self.refusals_of(c, n)).iter().sum()));
         println!(
             "| all | | {} |",
             joined(&all.collect(), |number: &u8| number.to_string())

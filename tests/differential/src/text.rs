@@ -11,6 +11,7 @@ const SERVICE: u8 = 3;
 pub const READS: u8 = 4;
 pub const WRITES: u8 = 5;
 const PIN: u8 = 6;
+pub const APART: u8 = 7;
 
 /// How many of each thing are to be declared, and of what kind.
 pub struct Plan {
@@ -18,6 +19,7 @@ pub struct Plan {
     pub blocks: usize,
     pub edges: usize,
     pub pins: usize,
+    pub pairs: usize,
     /// Pins are added until there are no more candidates than this.
     pub candidates: u64,
     /// The highest level that is used.
@@ -51,6 +53,7 @@ pub struct Text<'a> {
     clouds: Vec<u8>,
     blocks: Vec<Block>,
     edges: Vec<[u8; 3]>,
+    pairs: Vec<[u8; 2]>,
 }
 
 impl<'a> Text<'a> {
@@ -67,6 +70,7 @@ impl<'a> Text<'a> {
             clouds: Vec::new(),
             blocks: Vec::new(),
             edges: Vec::new(),
+            pairs: Vec::new(),
         }
     }
 
@@ -77,6 +81,7 @@ impl<'a> Text<'a> {
         steps.extend((0..plan.blocks).map(|_| self.random.pick(&block)));
         steps.extend((0..plan.edges).map(|_| self.random.pick(&[READS, READS, WRITES])));
         steps.extend(vec![PIN; plan.pins]);
+        steps.extend(vec![APART; plan.pairs]);
         if plan.shuffled {
             self.random.shuffle(&mut steps);
         }
@@ -103,6 +108,7 @@ impl<'a> Text<'a> {
                 self.service(level, clearance);
             }
             PIN => self.pin_any(),
+            APART => self.pair_any(),
             way => self.edge(way, lawless),
         }
     }
@@ -211,6 +217,38 @@ impl<'a> Text<'a> {
         }
     }
 
+    /// A pair of data that is not there yet; after some tries there is none. Seldom one that no
+    /// placement keeps, since a service has to do with both.
+    pub fn pair_any(&mut self) {
+        let hopeless = self.random.one_in(6);
+        for _ in 0..8 {
+            let (Some(one), Some(other)) = (self.some_block(true), self.some_block(true)) else {
+                return;
+            };
+            let pair = [one as u8, other as u8];
+            if self.takes_pair(pair) && (hopeless || !self.share_a_service(pair)) {
+                self.pair(pair);
+                return;
+            }
+        }
+    }
+
+    pub fn pair(&mut self, [one, other]: [u8; 2]) {
+        self.pairs.push([one, other]);
+        self.bytes.extend([APART, one, other]);
+    }
+
+    fn takes_pair(&self, [one, other]: [u8; 2]) -> bool {
+        let is_there = |pair: &[u8; 2]| *pair == [one, other] || *pair == [other, one];
+        one != other && !self.pairs.iter().any(is_there)
+    }
+
+    fn share_a_service(&self, [one, other]: [u8; 2]) -> bool {
+        let names = |service, datum| self.edges.iter().any(|e| e[1..] == [service, datum]);
+        let mut services = self.edges.iter().map(|e| e[1]);
+        services.any(|service| names(service, one) && names(service, other))
+    }
+
     fn pin_any(&mut self) {
         let open: Vec<usize> = self.unpinned().collect();
         if !open.is_empty() && !self.clouds.is_empty() {
@@ -276,7 +314,7 @@ pub fn commands(text: &[u8]) -> Vec<Range<usize>> {
             CLOUD => 10,
             DATUM => 6,
             SERVICE => 7,
-            READS | WRITES | PIN => 3,
+            READS | WRITES | PIN | APART => 3,
             _ => break,
         };
         let end = (at + width).min(text.len());

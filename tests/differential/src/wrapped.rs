@@ -58,6 +58,7 @@ fn counted(census: Census) -> panel::Census {
         candidates: census.candidates,
         breaking16: census.breaking_16,
         breaking17_only: census.breaking_17_only,
+        apart_only: census.apart_only,
         secure: census.secure,
         options: census.options,
     }

@@ -9,6 +9,7 @@ pub struct Census {
     pub candidates: u64,
     pub breaking_16: u64,
     pub breaking_17_only: u64,
+    pub apart_only: u64,
     pub secure: u64,
     pub options: u64,
 }
@@ -21,7 +22,7 @@ pub const ROW_WORDS: usize = 5;
 pub const SCRATCH_WORDS: usize = 2;
 
 impl Description {
-    /// Refuses with 13, 14 or 15, each tested as a whole before the next.
+    /// Refuses with 13, 14, 15 or 17, each tested as a whole before the next.
     pub fn judge(&self, placement: &Placement) -> Result<(), Refusal> {
         let misplaced = (0..placement.len()).find(|&at| !self.fits(placement, at));
         if let Some(place) = misplaced {
@@ -32,7 +33,10 @@ impl Description {
                 return Err(Refusal { number, place });
             }
         }
-        Ok(())
+        match self.first_meeting(placement) {
+            Some(place) => Err(Refusal { number: 17, place }),
+            None => Ok(()),
+        }
     }
 
     fn fits(&self, placement: &Placement, at: usize) -> bool {
@@ -69,6 +73,7 @@ impl Description {
             candidates: 0,
             breaking_16: 0,
             breaking_17_only: 0,
+            apart_only: 0,
             secure: 0,
             options: rows.len() as u64,
         };
@@ -78,6 +83,8 @@ impl Description {
                 census.breaking_16 += 1;
             } else if self.first_breaking(Way::Writes, &placement).is_some() {
                 census.breaking_17_only += 1;
+            } else if self.first_meeting(&placement).is_some() {
+                census.apart_only += 1;
             } else {
                 census.secure += 1;
             }

@@ -43,6 +43,8 @@ pub struct Description {
     pub clouds: Vec<Cloud>,
     pub blocks: Vec<Block>,
     pub edges: Vec<Edge>,
+    /// Pairs of data that no cloud may hold both of.
+    pub apart: Vec<[usize; 2]>,
 }
 
 #[derive(Clone, Copy, Debug, PartialEq, Eq)]
@@ -114,7 +116,7 @@ impl Description {
             1 => 10,
             2 => 6,
             3 => 7,
-            4..=6 => 3,
+            4..=7 => 3,
             _ => return Err(2),
         };
         let operands = text.get(1..width).ok_or(1)?;
@@ -124,7 +126,8 @@ impl Description {
             3 => self.add_service(operands)?,
             4 => self.add_edge(Way::Reads, operands)?,
             5 => self.add_edge(Way::Writes, operands)?,
-            _ => self.add_pin(operands)?,
+            6 => self.add_pin(operands)?,
+            _ => self.add_apart(operands)?,
         }
         Ok(width)
     }
@@ -193,6 +196,17 @@ impl Description {
         refuse_if(cloud as usize >= clouds, 6)?;
         refuse_if(block.pin.is_some(), 7)?;
         block.pin = Some(cloud);
+        Ok(())
+    }
+
+    fn add_apart(&mut self, operands: &[u8]) -> Result<(), u8> {
+        refuse_if(self.apart.len() == 8, 4)?;
+        let [one, other] = [operands[0] as usize, operands[1] as usize];
+        let is_datum = |b: usize| self.blocks.get(b).is_some_and(Block::is_datum);
+        refuse_if(!is_datum(one) || !is_datum(other), 6)?;
+        let is_there = |pair: &[usize; 2]| *pair == [one, other] || *pair == [other, one];
+        refuse_if(one == other || self.apart.iter().any(is_there), 7)?;
+        self.apart.push([one, other]);
         Ok(())
     }
 }

@@ -119,12 +119,34 @@ impl Description {
         gigabytes * (self.clouds[source].outward + self.clouds[destination].inward)
     }
 
+    /// The clouds that hold a datum, a bit for each: its own, and those where a transfer leaves a
+    /// copy.
+    fn holders(&self, datum: usize, placement: &Placement) -> u8 {
+        let mut clouds = 1 << placement[datum];
+        for edge in self.edges.iter().filter(|e| e.datum == datum) {
+            let [service, home] = edge.ends(placement);
+            if service != home {
+                clouds |= 1 << service;
+            }
+        }
+        clouds
+    }
+
+    /// The first pair whose data some cloud holds both of.
+    pub fn first_meeting(&self, placement: &Placement) -> Option<usize> {
+        let meets = |pair: &[usize; 2]| {
+            let [one, other] = pair.map(|datum| self.holders(datum, placement));
+            one & other != 0
+        };
+        self.apart.iter().position(meets)
+    }
+
     pub fn is_secure(&self, placement: &Placement) -> bool {
         let exposes = |e: &Edge| {
             let [service, datum] = e.ends(placement);
             self.exposes(e, service, datum)
         };
-        !self.edges.iter().any(exposes)
+        !self.edges.iter().any(exposes) && self.first_meeting(placement).is_none()
     }
 
     pub fn cost(&self, placement: &Placement) -> u64 {

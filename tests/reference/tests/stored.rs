@@ -15,6 +15,8 @@ const INTERVIEW: &[u8] = include_bytes!("../../../examples/interview.bin");
 const INTERVIEW_LIST: &str = include_str!("../../../examples/interview.expected");
 const SECOND: &[u8] = include_bytes!("../../../examples/second.bin");
 const SECOND_LIST: &str = include_str!("../../../examples/second.expected");
+const APART: &[u8] = include_bytes!("../../../examples/apart.bin");
+const APART_LIST: &str = include_str!("../../../examples/apart.expected");
 
 /// The buffer of a Transfers is full of these at first.
 const UNTOUCHED: u8 = 0xA5;
@@ -65,9 +67,9 @@ fn answer(letter: u8, text: &[u8], operands: &[u8], lists: &mut Lists) -> Result
         b'C' => {
             let c = described.census(rows(lists, text, &described));
             let [broken_16, broken_17] = [c.breaking_16, c.breaking_17_only];
-            let [secure, options] = [c.secure, c.options];
+            let [apart, secure, options] = [c.apart_only, c.secure, c.options];
             let candidates = c.candidates;
-            format!("census {candidates} {broken_16} {broken_17} {secure} {options}")
+            format!("census {candidates} {broken_16} {broken_17} {apart} {secure} {options}")
         }
         _ => drawn(rows(lists, text, &described), operands),
     })
@@ -135,7 +137,11 @@ fn the_stored_cases_are_answered_alike() {
 
 #[test]
 fn the_examples_are_listed_as_stored() {
-    for (text, list) in [(INTERVIEW, INTERVIEW_LIST), (SECOND, SECOND_LIST)] {
+    for (text, list) in [
+        (INTERVIEW, INTERVIEW_LIST),
+        (SECOND, SECOND_LIST),
+        (APART, APART_LIST),
+    ] {
         let described = read(text).expect("the description is accepted");
         let (rows, blocks) = (described.rows(), described.blocks.len());
         let lines: String = rows.iter().map(|row| shown(row, blocks) + "\n").collect();

@@ -31,6 +31,9 @@ array-read-t18 c = search needs
 array-read-t21 : tie.Need-array-read-t21
 array-read-t21 c = search needs
 
+array-read-t24 : tie.Need-array-read-t24
+array-read-t24 c = search needs
+
 returns : tie.Need-returns
 returns c =
     let seen = c .before .walk-candidates in
@@ -51,4 +54,5 @@ count-all-spec =
     array-read-t15
     array-read-t18
     array-read-t21
+    array-read-t24
     returns)

@@ -1,19 +1,18 @@
 -- A draw drops what weighs more than its best row; anything else is looked at.
 use native.Mathlib.Omega.{arith}
 use mathlib.Core.Path.{sym, _∙_}
-use mathlib.Core.Bool.{Bool}
 use lib.ListN.{getD}
 use borrow.Author.Tests.{ne-eqb}
-use Rattle.visit.specs.Tables.{standsIn}
+use Rattle.visit.specs.Tables.{Tests, testsIn}
 use Rattle.visit.specs.Visits.{countingAt, bestCostAt, bestPlaceAt}
 use Rattle.visit.proofs.Cases.{not-earlier, no-better, not-wanted, see-draws, none-kept}
 use borrow.Author.Needs.{needs}
 use Rattle.visit.proofs.meet.Statement.{statement}
 use Rattle.visit.proofs.meet.Tie as tie
 
--- the row test, which is not made
-abbrev row-test : tie.Start → Bool
-row-test s = let a = s .args in standsIn (a .bytes .now) (a .blocks) (a .place)
+-- the tests, which are not made
+abbrev tests : tie.Start → Tests
+tests s = let a = s .args in testsIn (a .bytes .now) (a .blocks) (a .place)
 
 element-copy-out-if1 : tie.Need-element-copy-out-if1
 element-copy-out-if1 c = search needs
@@ -29,8 +28,8 @@ returns c =
     let off = ne-eqb (getD state countingAt 0) 1 (c .before .before .if1 .taken) in
     let dear = not-earlier (a .weight) (a .place) (getD state bestCostAt 0) (getD state bestPlaceAt 0) (omega arith) (λ e. omega arith) in
     let unwanted = no-better state (a .weight) (a .place) dear in (
-      sym (see-draws (a .weight) (a .place) (row-test s) state off ∙ not-wanted (a .weight) (a .place) (row-test s) state unwanted),
-      sym (none-kept (a .weight) (a .place) (row-test s) state (a .kept .now) off),
+      sym (see-draws (a .weight) (a .place) (tests s) state off ∙ not-wanted (a .weight) (a .place) (tests s) state unwanted),
+      sym (none-kept (a .weight) (a .place) (tests s) state (a .kept .now) off),
     )
 
 count-or-draw-requires : tie.Need-count-or-draw-requires

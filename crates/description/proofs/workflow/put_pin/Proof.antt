@@ -28,7 +28,7 @@ returns c =
     let written = c .before .block-record in
     let new = written .ensures ∙ ap (λ b. pinned b (a .k)) (c .before .before .before .block-at .ensures) in
     ap describes (c .put-record .ensures .0) ∙ another-block (a .w .now) (c .put-record .ensures .1) (a .b) (written .result) (s .pre) ∙
-    ap (λ x. record { clouds = d .clouds; blocks = set (d .blocks) (a .b) x; edges = d .edges }) new
+    ap (λ x. record { clouds = d .clouds; blocks = set (d .blocks) (a .b) x; edges = d .edges; pairs = d .pairs }) new
 
 pub put-pin-spec : {M : Type 1} → statement M
 put-pin-spec =

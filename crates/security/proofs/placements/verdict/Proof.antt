@@ -66,15 +66,41 @@ returns-3 c =
 enum-told-3 : tie.Need-enum-told-3
 enum-told-3 c = search needs
 
+first-broken-requires : tie.Need-first-broken-requires
+first-broken-requires c κs = search needs
+
+enum-known-pair : tie.Need-enum-known-pair
+enum-known-pair c = search needs
+
+unfit-requires-4 : tie.Need-unfit-requires-4
+unfit-requires-4 c κs = search needs
+
 returns-4 : tie.Need-returns-4
 unfolding judge
 returns-4 c =
-    let unread = c .before .before .before in
+    let unwritten = c .before .before .before .before .before in
+    let unread = unwritten .before .before .before in
     let fine = unread .before .before .before in
     let position = sym (fine .before .before .first-bad-position .ensures) ∙ ap foundIn (fine .enum-told .given .1) in
     let read = sym (unread .before .before .first-breaking .ensures) ∙ ap foundIn (unread .enum-told2 .given .1) in
-    let write = sym (c .before .before .first-breaking2 .ensures) ∙ ap foundIn (c .enum-told3 .given .1) in
-    simp (position, read, write)
+    let write = sym (unwritten .before .before .first-breaking2 .ensures) ∙ ap foundIn (unwritten .enum-told3 .given .1) in
+    let pair = sym (c .before .before .before .before .first-broken .ensures) ∙ ap foundIn (c .before .before .pair .given .1) in
+    ap judgeAnswer (c .unfit4 .ensures) ∙ simp (position, read, write, pair)
+
+enum-told-4 : tie.Need-enum-told-4
+enum-told-4 c = search needs
+
+returns-5 : tie.Need-returns-5
+unfolding judge
+returns-5 c =
+    let unwritten = c .before .before .before in
+    let unread = unwritten .before .before .before in
+    let fine = unread .before .before .before in
+    let position = sym (fine .before .before .first-bad-position .ensures) ∙ ap foundIn (fine .enum-told .given .1) in
+    let read = sym (unread .before .before .first-breaking .ensures) ∙ ap foundIn (unread .enum-told2 .given .1) in
+    let write = sym (unwritten .before .before .first-breaking2 .ensures) ∙ ap foundIn (unwritten .enum-told3 .given .1) in
+    let pair = sym (c .before .before .first-broken .ensures) ∙ ap foundIn (c .enum-told4 .given .1) in
+    simp (position, read, write, pair)
 
 pub verdict-spec : {M : Type 1} → statement M
 verdict-spec =
@@ -95,4 +121,9 @@ verdict-spec =
     unfit-requires-3
     returns-3
     enum-told-3
-    returns-4)
+    first-broken-requires
+    enum-known-pair
+    unfit-requires-4
+    returns-4
+    enum-told-4
+    returns-5)

@@ -1,5 +1,5 @@
--- A placement is secure where no edge, read or written, exposes a copy; and a candidate where on each edge the service's cloud has at
--- least the datum's level.
+-- A placement keeps rules 16 and 17 where no edge, read or written, exposes a copy; and a candidate where on each edge the service's cloud
+-- has at least the datum's level.
 use Prim.Native.Nat.{ℕ, _≤_, _<_}
 use native.Mathlib.Decide.{ℕ-discrete}
 use native.Mathlib.Omega.{arith}
@@ -14,7 +14,7 @@ use Rattle.description.specs.declared.workflow.Edge.{Edge}
 use Rattle.description.specs.Format.{Description, noEdge, isWrite}
 use Rattle.description.specs.Invariants.{WellFormed}
 use Rattle.security.specs.Soundness.{covers, cloudLevel, blockLevel}
-use Rattle.security.specs.Placements.{serviceCloud, datumCloud, exposes, breaks16, breaks17, secure}
+use Rattle.security.specs.Placements.{serviceCloud, datumCloud, exposes, breaks16, breaks17, unexposed}
 use Rattle.security.specs.Statements.{Placed}
 use Rattle.security.proofs.Moves.{exposes-apart, read-breaks, write-breaks}
 use Rattle.sequences.proofs.Agreeing.{member-at}
@@ -30,9 +30,9 @@ module _ (d : Description) (p : List ℕ) where
       go true w = let (never, breaks) = write-breaks d p e w in (λ f. (never, breaks ∙ f), λ h. sym breaks ∙ h .1)
       go false w = let (breaks, never) = read-breaks d p e w in (λ f. (breaks ∙ f, never), λ h. sym breaks ∙ h .0)
 
-  -- secure: no edge exposes a copy
-  pub secure-edges : (secure d p ≡ true) ↔ ((e : Edge) → List·Memᴰ e (d .edges) → exposes d p e ≡ false)
-  secure-edges =
+  -- both rules: no edge exposes a copy
+  pub unexposed-edges : (unexposed d p ≡ true) ↔ ((e : Edge) → List·Memᴰ e (d .edges) → exposes d p e ≡ false)
+  unexposed-edges =
       let keeps16 = none-members (breaks16 d p) (d .edges) in
       let keeps17 = none-members (breaks17 d p) (d .edges) in (
         λ t e m. let (reads, writes) = both-pass _ _ .0 t in edge-keeps e .1 (keeps16 .0 (not-true _ reads) e m, keeps17 .0 (not-true _ writes) e m),
@@ -41,15 +41,15 @@ module _ (d : Description) (p : List ℕ) where
 
 -- Where a candidate's datum stands on the service's cloud itself, that cloud has its level by rule 7. So on which clouds the data stand
 -- does not matter.
-pub secure-covered : (d : Description) → WellFormed d → (p : List ℕ) → Placed d p
-    → (secure d p ≡ true) ↔ ((e : Edge) → List·Memᴰ e (d .edges) → blockLevel d (e .datum) ≤ cloudLevel d (serviceCloud p e))
+pub unexposed-covered : (d : Description) → WellFormed d → (p : List ℕ) → Placed d p
+    → (unexposed d p ≡ true) ↔ ((e : Edge) → List·Memᴰ e (d .edges) → blockLevel d (e .datum) ≤ cloudLevel d (serviceCloud p e))
 unfolding covers
-secure-covered d w p placed = (
+unexposed-covered d w p placed = (
   λ s e m. elim (ℕ-discrete (serviceCloud p e) (datumCloud p e)) [
     | yes here ↦ rw here (own-level e m)
-    | no away ↦ leb-true _ _ (not-false _ (rw (ne-eqb (serviceCloud p e) (datumCloud p e) away) at (sym (exposes-apart d p e) ∙ secure-edges d p .0 s e m)))
+    | no away ↦ leb-true _ _ (not-false _ (rw (ne-eqb (serviceCloud p e) (datumCloud p e) away) at (sym (exposes-apart d p e) ∙ unexposed-edges d p .0 s e m)))
   ],
-  λ h. secure-edges d p .1 (λ e m. exposes-apart d p e ∙ and-fails (not (eqb (serviceCloud p e) (datumCloud p e))) _ (ap not (le-leb _ _ (h e m)))),
+  λ h. unexposed-edges d p .1 (λ e m. exposes-apart d p e ∙ and-fails (not (eqb (serviceCloud p e) (datumCloud p e))) _ (ap not (le-leb _ _ (h e m)))),
 )
   where
     own-level : (e : Edge) → List·Memᴰ e (d .edges) → blockLevel d (e .datum) ≤ cloudLevel d (datumCloud p e)
