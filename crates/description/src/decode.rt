@@ -4,11 +4,12 @@ ghost use Prim.Native.Nat.{_+_, _<_};
 ghost use mathlib.Core.Bool.{cond};
 ghost use lib.Dec.{eqb};
 ghost use lib.ListN.{length};
-ghost use Rattle.sequences.specs.Lists.{any};
-ghost use Rattle.description.specs.Format.{isDatum, isWrite, isPinned, namesDatum, namesService, clash, namedBy, samePair};
+ghost use Rattle.description.specs.Format.{isDatum, isWrite, isPinned, namesDatum, namesService};
 ghost use Rattle.description.specs.Format.{u8At, u16At, u32At, cloudAt, datumAt, serviceAt, edgeAt, pinAt, pairAt, commandAt};
 ghost use Rattle.description.specs.Format.{readFrom, nothing, decode};
 ghost use Rattle.description.specs.Meaning.{describes, outcomeOf, Cleared, Steps};
+use crate::repeats::clashes_with_any;
+use crate::repeats::repeats_any;
 use crate::words::MOST_BLOCKS;
 use crate::words::MOST_CLOUDS;
 use crate::words::MOST_EDGES;
@@ -28,9 +29,7 @@ use crate::workflow::begin;
 use crate::workflow::block_at;
 use crate::workflow::block_count;
 use crate::workflow::cloud_count;
-use crate::workflow::edge_at;
 use crate::workflow::edge_count;
-use crate::workflow::pair_at;
 use crate::workflow::pair_count;
 use crate::workflow::put_block;
 use crate::workflow::put_cloud;
@@ -175,72 +174,6 @@ fn names_service(w: &Words, n: usize) -> bool
         let b = block_at(w, n);
         let k = b.kind;
         return !is_datum(k);
-    }
-    false
-}
-
-// The edge e can't be declared after f: it repeats f, or is a second writer of its datum.
-fn clashes(e: Edge, f: Edge) -> bool
-    ensures { λ r. ⌜ r ≡ clash e f ⌝ }
-{
-    let way = e.way;
-    let other = f.way;
-    if e.datum != f.datum {
-        return false;
-    }
-    if is_write(way) {
-        return is_write(other);
-    }
-    if is_write(other) {
-        return false;
-    }
-    e.service == f.service
-}
-
-fn clashes_with_any(w: &Words, e: Edge) -> bool
-    ensures { λ r. ⌜ r ≡ any (clash e) (describes (now (w .entry)) .edges) ⌝ }
-{
-    let n = edge_count(w);
-    let mut i = 0;
-    while i < n {
-        if clashes(e, edge_at(w, i)) {
-            return true;
-        }
-        i += 1;
-    }
-    false
-}
-
-// The pair has the data x and y, in this order.
-fn named_by(a: Pair, x: u8, y: u8) -> bool
-    ensures { λ r. ⌜ r ≡ namedBy a x y ⌝ }
-{
-    if x != a.left {
-        return false;
-    }
-    y == a.right
-}
-
-// Two pairs have the same data, in either order.
-fn same_pair(a: Pair, b: Pair) -> bool
-    ensures { λ r. ⌜ r ≡ samePair a b ⌝ }
-{
-    if named_by(b, a.left, a.right) {
-        return true;
-    }
-    named_by(b, a.right, a.left)
-}
-
-fn repeats_any(w: &Words, a: Pair) -> bool
-    ensures { λ r. ⌜ r ≡ any (samePair a) (describes (now (w .entry)) .pairs) ⌝ }
-{
-    let n = pair_count(w);
-    let mut i = 0;
-    while i < n {
-        if same_pair(a, pair_at(w, i)) {
-            return true;
-        }
-        i += 1;
     }
     false
 }

@@ -1,28 +1,27 @@
 -- The clouds that hold a datum, marked one after the other: its own, and those of the services on its edges.
 use Prim.Native.Nat.{ℕ, _+_, _≤_, _<_}
 use native.Mathlib.Decide.{decLt, ℕ-discrete}
-use native.Mathlib.Numerals.{add-one}
 use native.Mathlib.Omega.{arith}
 use mathlib.Core.Path.{_≡_, refl, sym, ap, ap₂, _∙_}
 use mathlib.Core.Logic.{inl, inr}
 use mathlib.Core.Bool.{Bool, true, false, _&&_, _||_, cond, or-false}
-use mathlib.Core.List.{List, [], _∷_}
+use mathlib.Core.List.{List}
 use lib.Dec.{ltb, eqb}
 use lib.ListN.{length, getD, set, take, replicate, length-set, length-map, getD-replicate}
-use lib.Seq.{take-suc, take-all, getD-set-same, getD-set-other, ext-getD}
+use lib.Seq.{take-all, getD-set-same, getD-set-other, ext-getD}
 use borrow.Author.Tests.{eqb-true, eq-eqb, ne-eqb, lt-ltb, le-ltb}
 use Rattle.description.specs.declared.workflow.Edge.{Edge}
 use Rattle.description.specs.declared.workflow.Pair.{Pair}
 use Rattle.description.specs.Format.{Description, noEdge, edge}
-use Rattle.security.specs.Answers.{marked, heldBy}
+use Rattle.security.specs.HeldClouds.{marked, heldBy}
 use Rattle.security.specs.Placements.{serviceCloud, holds, holdsBoth}
 use Rattle.security.proofs.Holding.{holder-if, holds-if}
 use Rattle.sequences.specs.Lists.{any, below}
 use Rattle.sequences.proofs.Agreeing.{tests-agree}
 use Rattle.sequences.proofs.Counting.{getD-below, length-below}
 use Rattle.sequences.proofs.Members.{any-members, getD-map}
-use Rattle.sequences.proofs.Parts.{any-append}
-use Rattle.sequences.proofs.Tests.{cond-ind, both-pass, one-passes}
+use Rattle.sequences.proofs.Parts.{any-next}
+use Rattle.sequences.proofs.Tests.{cond-ind, both-pass, one-passes, told-by-one}
 
 -- an edge of datum n whose service stands on cloud k
 abbrev standsOn : List ℕ → (n k : ℕ) → Edge → Bool
@@ -80,9 +79,7 @@ module _ {d : Description} {p : List ℕ} {n : ℕ} where
   module _ {a : List ℕ} {i : ℕ} (held : Held d p n a i) (there : i < length (d .edges)) where
     one-more : (k : ℕ) → any (standsOn p n k) (take (i + 1) (d .edges)) ≡
         (any (standsOn p n k) (take i (d .edges)) || (standsOn p n k (edge d i) || false))
-    one-more k =
-        ap (λ (m : ℕ). any (standsOn p n k) (take m (d .edges))) (add-one i) ∙ ap (any (standsOn p n k)) (take-suc (d .edges) i noEdge there) ∙
-        any-append (standsOn p n k) (take i (d .edges)) (edge d i ∷ [])
+    one-more k = any-next (standsOn p n k) (d .edges) noEdge i there
 
     -- the service of one more edge
     pub held-one : edge d i .datum ≡ n → Held d p n (marked a (serviceCloud p (edge d i))) (i + 1)
@@ -131,11 +128,7 @@ module _ (d : Description) (p : List ℕ) (n : ℕ) where
 
   -- a mark is read back
   held-at : (k : ℕ) → k < 8 → eqb (getD (heldBy d p n) k 0) 1 ≡ holds d p n k
-  held-at k h = ap (λ (x : ℕ). eqb x 1) (held-entry k h) ∙ back (holds d p n k)
-    where
-      back : (b : Bool) → eqb (cond b 1 0) 1 ≡ b
-      back true = refl
-      back false = refl
+  held-at k h = ap (λ (x : ℕ). eqb x 1) (held-entry k h) ∙ told-by-one (holds d p n k)
 
 -- marks in both say that a cloud holds both data of a pair
 pub both-held : (d : Description) (p : List ℕ) (a : Pair) (k : ℕ) {left right : List ℕ} → k < 8 → left ≡ heldBy d p (a .left) → right ≡ heldBy d p (a .right)

@@ -1,6 +1,7 @@
 pub mod Accepted
 pub mod Answers
 pub mod Conflicts
+pub mod HeldClouds
 pub mod Placements
 pub mod Soundness
 pub mod Statements

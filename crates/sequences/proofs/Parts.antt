@@ -1,10 +1,12 @@
 -- A test parts a list in two, two tests in three, and three in four: how many each part has. Of two lists it keeps what it keeps of each.
-use Prim.Native.Nat.{suc, _+_}
+use Prim.Native.Nat.{ℕ, suc, _+_, _<_}
+use native.Mathlib.Numerals.{add-one}
 use native.Mathlib.Omega.{arith}
 use mathlib.Core.Path.{_≡_, refl, sym, ap, _∙_}
 use mathlib.Core.Bool.{Bool, true, false, not, _&&_, _||_, cond, or-assoc}
 use mathlib.Core.List.{List, [], _∷_, _++_}
-use lib.ListN.{length}
+use lib.ListN.{length, getD, take}
+use lib.Seq.{take-suc}
 use Rattle.sequences.specs.Lists.{any, keep}
 
 module _ {A : Type 0} where
@@ -22,6 +24,12 @@ module _ {A : Type 0} where
   pub any-append : (t : A → Bool) (xs ys : List A) → any t (xs ++ ys) ≡ (any t xs || any t ys)
   any-append t [] ys = refl
   any-append t (x ∷ xs) ys = ap (λ b. t x || b) (any-append t xs ys) ∙ sym (or-assoc (t x) (any t xs) (any t ys))
+
+  -- one of the first i + 1 passes where one of the first i or the next one does
+  pub any-next : (t : A → Bool) (xs : List A) (default : A) (i : ℕ) → i < length xs
+      → any t (take (i + 1) xs) ≡ (any t (take i xs) || (t (getD xs i default) || false))
+  any-next t xs default i h =
+      ap (λ (n : ℕ). any t (take n xs)) (add-one i) ∙ ap (any t) (take-suc xs i default h) ∙ any-append t (take i xs) (getD xs i default ∷ [])
 
   -- what a second test keeps of what the first kept is what passes both
   pub keep-both : (t u : A → Bool) (xs : List A) → keep u (keep t xs) ≡ keep (λ x. t x && u x) xs

@@ -57,6 +57,11 @@ pub one-passes : (a b : Bool) → (a || b ≡ true) ↔ ((a ≡ true) ⊎ (b ≡
 one-passes true b = (or-passes true b, λ _. refl)
 one-passes false b = (or-passes false b, λ h. elim h [ inl f ↦ absurd (true≢false (sym f)) | inr t ↦ t ])
 
+-- a test that is kept as a number, 1 where it passed, is read back
+pub told-by-one : (b : Bool) → eqb (cond b 1 0) 1 ≡ b
+told-by-one true = refl
+told-by-one false = refl
+
 -- no element passes: none at any position does
 pub any-fails : {A : Type 0} (t : A → Bool) (d : A) (l : List A) → any t l ≡ false → (i : ℕ) → i < length l → t (getD l i d) ≡ false
 any-fails t d [] e i h = absurd (not-suc-le-zero h)

@@ -1,29 +1,23 @@
 -- The services of each datum's edges, marked edge by edge.
 use Prim.Native.Nat.{ℕ, _+_, _*_, _/_, _%_, _≤_, _<_}
 use native.Mathlib.Decide.{ℕ-discrete}
-use native.Mathlib.Numerals.{add-one}
 use native.Mathlib.Omega.{arith}
 use mathlib.Core.Path.{_≡_, refl, sym, ap, ap₂, _∙_}
 use mathlib.Core.Bool.{Bool, true, false, _||_, cond, or-true, or-false}
-use mathlib.Core.List.{List, [], _∷_, _++_}
+use mathlib.Core.List.{List}
 use lib.Dec.{eqb}
 use lib.ListN.{length, getD, set, take, replicate, length-set, length-replicate}
-use lib.Seq.{take-suc, take-all, getD-set-same, getD-set-other, ext-getD}
+use lib.Seq.{take-all, getD-set-same, getD-set-other, ext-getD}
 use borrow.Author.Tests.{eq-eqb, ne-eqb, eqb-true}
 use Rattle.description.specs.declared.workflow.Edge.{Edge}
 use Rattle.description.specs.Format.{Description, noEdge, edge}
 use Rattle.security.specs.Conflicts.{serves}
 use Rattle.sequences.specs.Lists.{any}
-use Rattle.sequences.proofs.Parts.{any-append}
-use Rattle.sequences.proofs.Tests.{both-pass, not-passed}
+use Rattle.sequences.proofs.Parts.{any-next}
+use Rattle.sequences.proofs.Tests.{both-pass, not-passed, told-by-one}
 use Rattle.tables.specs.Building.{servedAt, servedOf}
 use Rattle.tables.proofs.Filling.{length-table, getD-table}
 use Rattle.tables.proofs.Indexing.{zeros-at}
-
--- a mark is read back
-marked : (b : Bool) → eqb (cond b 1 0) 1 ≡ b
-marked true = refl
-marked false = refl
 
 pub served-at : (d : Description) (n u : ℕ) → n < 16 → u < 16 → eqb (getD (servedOf d) (n * 16 + u) 0) 1 ≡ any (serves n u) (d .edges)
 unfolding servedOf
@@ -31,7 +25,7 @@ served-at d n u h l =
     let quo : (n * 16 + u) / 16 ≡ n = omega arith in
     let rem : (n * 16 + u) % 16 ≡ u = omega arith in
     ap (λ (x : ℕ). eqb x 1) (getD-table 256 (servedAt (d .edges)) (n * 16 + u) (omega arith)) ∙
-    marked (any (serves ((n * 16 + u) / 16) ((n * 16 + u) % 16)) (d .edges)) ∙ ap₂ (λ (x y : ℕ). any (serves x y) (d .edges)) quo rem
+    told-by-one (any (serves ((n * 16 + u) / 16) ((n * 16 + u) % 16)) (d .edges)) ∙ ap₂ (λ (x y : ℕ). any (serves x y) (d .edges)) quo rem
 
 -- those of the first i edges are marked
 pub record Served (d : Description) (a : List ℕ) (i : ℕ) : Type 0 where
@@ -44,11 +38,8 @@ module _ {d : Description} where
 
   module _ {a : List ℕ} {i k : ℕ} (s : Served d a i) (there : i < length (d .edges)) (here : k ≡ edge d i .datum * 16 + edge d i .service)
       (small : edge d i .datum < 16) (low : edge d i .service < 16) where
-    -- one more edge, among those that serve
-    one-more : (t : Edge → Bool) → any t (take (i + 1) (d .edges)) ≡ (any t (take i (d .edges)) || any t (edge d i ∷ []))
-    one-more t =
-        ap (λ (n : ℕ). any t (take n (d .edges))) (add-one i) ∙ ap (any t) (take-suc (d .edges) i noEdge there) ∙
-        any-append t (take i (d .edges)) (edge d i ∷ [])
+    one-more : (t : Edge → Bool) → any t (take (i + 1) (d .edges)) ≡ (any t (take i (d .edges)) || (t (edge d i) || false))
+    one-more t = any-next t (d .edges) noEdge i there
 
     hit : servedAt (take (i + 1) (d .edges)) k ≡ 1
     hit =

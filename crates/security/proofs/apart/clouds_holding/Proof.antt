@@ -7,7 +7,7 @@ use lib.ListN.{length, getD, replicate}
 use borrow.Author.Needs.{needs}
 use Rattle.description.specs.Format.{edge}
 use Rattle.description.specs.Meaning.{describes}
-use Rattle.security.specs.Answers.{marked}
+use Rattle.security.specs.HeldClouds.{marked}
 use Rattle.security.specs.Placements.{serviceCloud}
 use Rattle.security.proofs.HeldClouds.{Held, held-own, held-one, held-other, held-all}
 use Rattle.security.proofs.apart.clouds_holding.Statement.{statement}

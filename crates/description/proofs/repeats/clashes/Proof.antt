@@ -3,8 +3,8 @@ use borrow.Author.Needs.{needs}
 use borrow.Author.Tests.{eq-eqb, ne-eqb}
 use mathlib.Core.Path.{sym, _∙_}
 use Rattle.description.proofs.Steps.{clash-is}
-use Rattle.description.proofs.decode.clashes.Statement.{statement}
-use Rattle.description.proofs.decode.clashes.Tie as tie
+use Rattle.description.proofs.repeats.clashes.Statement.{statement}
+use Rattle.description.proofs.repeats.clashes.Tie as tie
 
 returns : tie.Need-returns
 returns c = sym (clash-is (c .before .before .before .args .e) (c .before .before .before .args .f) ∙ simp (ne-eqb _ _ (c .if1 .taken)))

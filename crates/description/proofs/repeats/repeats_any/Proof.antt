@@ -8,8 +8,8 @@ use Rattle.sequences.proofs.Loops.{any-hit, any-miss, any-end, told}
 use Rattle.sequences.specs.Lists.{any}
 use Rattle.description.specs.Format.{samePair, noPair}
 use Rattle.description.specs.Meaning.{describes}
-use Rattle.description.proofs.decode.repeats_any.Statement.{statement}
-use Rattle.description.proofs.decode.repeats_any.Tie as tie
+use Rattle.description.proofs.repeats.repeats_any.Statement.{statement}
+use Rattle.description.proofs.repeats.repeats_any.Tie as tie
 
 abbrev Inv-loop : tie.InvT-loop
 Inv-loop w a n i₀ i =

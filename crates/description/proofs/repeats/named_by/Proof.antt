@@ -1,7 +1,7 @@
 -- Each return by the tests that led there.
 use borrow.Author.Tests.{eq-eqb, ne-eqb}
-use Rattle.description.proofs.decode.named_by.Statement.{statement}
-use Rattle.description.proofs.decode.named_by.Tie as tie
+use Rattle.description.proofs.repeats.named_by.Statement.{statement}
+use Rattle.description.proofs.repeats.named_by.Tie as tie
 
 returns : tie.Need-returns
 returns c = simp (ne-eqb _ _ (c .if1 .taken))

@@ -2,8 +2,8 @@
 use borrow.Author.Needs.{needs}
 use mathlib.Core.Path.{sym, _∙_}
 use Rattle.description.specs.Format.{samePair}
-use Rattle.description.proofs.decode.same_pair.Statement.{statement}
-use Rattle.description.proofs.decode.same_pair.Tie as tie
+use Rattle.description.proofs.repeats.same_pair.Statement.{statement}
+use Rattle.description.proofs.repeats.same_pair.Tie as tie
 
 named-by-requires : tie.Need-named-by-requires
 named-by-requires c κs = search needs

@@ -8,8 +8,8 @@ use Rattle.sequences.proofs.Loops.{any-hit, any-miss, any-end, told}
 use Rattle.sequences.specs.Lists.{any}
 use Rattle.description.specs.Format.{clash, noEdge}
 use Rattle.description.specs.Meaning.{describes}
-use Rattle.description.proofs.decode.clashes_with_any.Statement.{statement}
-use Rattle.description.proofs.decode.clashes_with_any.Tie as tie
+use Rattle.description.proofs.repeats.clashes_with_any.Statement.{statement}
+use Rattle.description.proofs.repeats.clashes_with_any.Tie as tie
 
 abbrev Inv-loop : tie.InvT-loop
 Inv-loop w e n i₀ i =
