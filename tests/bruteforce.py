@@ -23,6 +23,7 @@ import random
 import re
 import sys
 from collections import Counter
+from fractions import Fraction
 from pathlib import Path
 from typing import NamedTuple
 
@@ -359,9 +360,10 @@ def moves(described, placement):
     return found
 
 
+@functools.cache
 def gigabytes(size):
-    """Tenths of a gigabyte, charged by the whole one."""
-    return (size + 9) // 10
+    """Tenths of a gigabyte, charged by the whole one: Python, too, rounds a half to even."""
+    return round(Fraction(size, 10))
 
 
 class Amounts(NamedTuple):
@@ -1974,7 +1976,7 @@ KNOWN = [Known(begin + STOP, counts, found) for begin, counts, found in (
     (cloud(14) * 8 + service() * 15 + service(15, 15), (0, 0, 0, 0, 0, 0), ""),
     # The least and the most.
     (cloud() + datum(), (1, 0, 0, 0, 1, 1), "0 0"),
-    (cloud(0, 1) + datum(0, 11, 1), (1, 0, 0, 0, 1, 1), "2 0"),
+    (cloud(0, 1) + datum(0, 11, 1), (1, 0, 0, 0, 1, 1), "1 0"),
     (cloud(cpu=65535) + service(units=0xFFFFFFFF) * 16, (1, 0, 0, 0, 1, 1),
      "4503530906845200 0000000000000000 0 0 4503530906845200"),
     (GRID, (64, 0, 0, 0, 64, 64), ", ".join(f"0 {a}{b}" for a in range(8) for b in range(8))),
@@ -1993,6 +1995,16 @@ KNOWN = [Known(begin + STOP, counts, found) for begin, counts, found in (
      (4, 0, 0, 0, 4, 4), "2 01 1 0 1, 3 00 1 0 2, 3 11 2 0 1, 4 10 2 0 2"),
     (cloud(0, 0, 1, 2) + cloud(0, 0, 3, 4) + datum(0, 10, 9) + service() + reads(1, 0),
      (4, 0, 0, 0, 4, 4), "0 00, 0 11, 5 01 0 5 0, 5 10 0 5 0"),
+    # A half is charged as the even neighbour: as nothing, so that the earlier bytes stand for an
+    # option; as 2 from either side, so that costs tie.
+    (stores(2, 1) + pipe(datum(0, 5, 9)), (8, 0, 0, 0, 8, 6),
+     "0 000, 0 001, 0 010, 0 100, 0 101, 0 111"),
+    (stores(2, 1) + pipe(datum(0, 6, 9)), (8, 0, 0, 0, 8, 6),
+     "9 010, 9 011, 9 110, 9 111, 18 000, 18 101"),
+    (stores(1, 2) + datum(0, 15, 1) + datum(0, 25, 1), (4, 0, 0, 0, 4, 4),
+     "4 00, 6 01, 6 10, 8 11"),
+    (stores(1, 2) + datum(0, 26, 1) + datum(0, 35, 1), (4, 0, 0, 0, 4, 4),
+     "7 00, 10 10, 11 01, 14 11"),
     # The highest amounts: of storage, and of transfers beside the other two.
     (cloud(0, 65535) + datum(0, 65535, 65535) * 16, (1, 0, 0, 0, 1, 1),
      "450373705898400 0000000000000000"),
@@ -2459,6 +2471,13 @@ def draw_at_random(dice, text, times):
         yield draw_case(text, odd_cursor(dice, found, blocks))
 
 
+def from_the_start(number, text):
+    """A draw from the start, and for every fourth description all draws, if they are few."""
+    if number % 4 == 0 and len(rows(text)) <= 20:
+        yield from chain(text, rows(text))
+    yield draw_case(text, None)
+
+
 def draw_merges(dice):
     """Where options merge, or seem to: whole chains, or single draws."""
     for text in (*pipes(), *pipes_with_levels(), *two_pipes(), *forks()):
@@ -2471,6 +2490,40 @@ def draw_merges(dice):
                  b"".join(MIXED_COMMANDS)):
         yield draw_case(text, None)
         yield from draw_at_random(dice, text, 4)
+
+
+# The sizes around each half near 0 and near the highest size, by what they are charged.
+CHARGES = {0: range(6), 1: range(6, 15), 2: range(15, 26), 3: range(26, 35), 4: range(35, 46),
+           6550: range(65495, 65506), 6551: range(65506, 65515), 6552: range(65515, 65526),
+           6553: range(65526, 65535), 6554: range(65535, 65536)}
+
+
+def draw_sizes():
+    """Each of these sizes stored, and transferred by a read and by a write."""
+    for charge, sizes in CHARGES.items():
+        for size in sizes:
+            for edge, rate in ((reads(1, 0), 3 + 11), (writes(1, 0), 13 + 2)):
+                amounts = Amounts(2 * charge, rate * charge, 17)
+                text = (cloud(0, 1, 2, 3, 5) + cloud(0, 7, 11, 13, 17) + datum(0, size, 2)
+                        + service(units=1) + edge + pin(0, 0) + pin(1, 1) + STOP)
+                row = Row(sum(amounts), placed(0, 1), amounts)
+                yield draw_case(text, None, row_line(row))
+
+
+def half_text(dice, most):
+    """A workflow as those of `flow_text`, whose sizes are at a half or next to one."""
+    made = random_flows(dice, most)
+    for d in made.data():
+        half = 10 * dice.choice((0, 0, 1, 1, 2, 3, 4, 6552, dice.below(6553))) + 5
+        made.blocks[d] = made.blocks[d]._replace(size=half + dice.choice((-1, 0, 0, 0, 1)))
+    return b"".join(commands_of(dice, made))
+
+
+def draw_halves(dice):
+    for number in range(40):
+        text = half_text(dice, dice.choice((8, 24, 24, 64, 64, 200)))
+        yield from from_the_start(number, text)
+        yield from draw_at_random(dice, text, 5)
 
 
 def draw_apart(dice):
@@ -2488,18 +2541,14 @@ def draw_apart(dice):
             yield draw_case(M_APART, cursor)
     for number in range(40):
         text = apart_text(dice, dice.choice((8, 24, 24, 64, 64, 200, 600)))
-        if number % 4 == 0 and len(rows(text)) <= 20:
-            yield from chain(text, rows(text))
-        yield draw_case(text, None)
+        yield from from_the_start(number, text)
         yield from draw_at_random(dice, text, 5)
 
 
 def draw_random(dice):
     for number in range(80):
         text = flow_text(dice, dice.choice((8, 24, 24, 64, 64, 200, 600)))
-        if number % 4 == 0 and len(rows(text)) <= 20:
-            yield from chain(text, rows(text))
-        yield draw_case(text, None)
+        yield from from_the_start(number, text)
         yield start_case(text, dice.below(2 ** 16), dice.bytes(16))
         yield from draw_at_random(dice, text, 6)
     for text in workflow_texts(dice, 50):
@@ -2522,6 +2571,8 @@ def draw_cases(dice):
     yield from draw_merges(dice)
     yield from draw_random(dice)
     yield from draw_apart(dice)
+    yield from draw_sizes()
+    yield from draw_halves(dice)
 
 
 # ---- The stored cases: all of them ----------------------------------------------------
@@ -2614,7 +2665,7 @@ def check_interview():
     nowhere = cloud(0) + datum(1) + STOP
     require(census(nowhere).candidates == 0 and draw(nowhere, None) is None,
             "interview 7: no candidates, finished first")
-    require([gigabytes(size) for size in (0, 1, 10, 11)] == [0, 1, 1, 2], "interview 8: sizes")
+    require([gigabytes(size) for size in (0, 1, 10, 11)] == [0, 0, 1, 1], "interview 8: sizes")
     for number, clouds, blocks, count in ((9, 2, 16, 65536), (10, 3, 10, 59049)):
         text = cloud() * clouds + datum() * blocks + STOP
         require(count_candidates(read(text)) == count, f"interview {number}: candidates")
@@ -2628,6 +2679,11 @@ def check_apart():
     require(listing(M_APART) == ["2920 11000 1320 100 1500", "options 1"], "apart: the rows")
     require(census(M_APART) == (16, 8, 0, 6, 2, 1), "apart: the census")
     require(refusal_of(judge, M_APART, placed(1, 1, 1, 1, 1)) == (17, 0), "apart: 11111")
+
+
+def check_halves():
+    """The sizes of the request for rounding to the nearest."""
+    require([gigabytes(size) for size in (4, 5, 6, 15, 25, 35)] == [0, 0, 1, 2, 2, 4], "halves")
 
 
 def check_bad_cases():
@@ -2786,6 +2842,14 @@ def check_options(cases):
               + ", ".join(f"{trait}: {times}" for trait, times in shown.items()))
 
 
+def check_sizes(cases, lines):
+    """A row is stored for every size up to 40, and for as many before the highest."""
+    drawn = {block.size for case, line in zip(cases, lines) if line.startswith("row ")
+             for block in read(case.text()).blocks if isinstance(block, Datum)}
+    missing = sorted({*range(41), *range(65495, 65536)} - drawn)
+    require(not missing, f"no row has a datum of size {missing}")
+
+
 def check_numbers(letter, lines):
     seen = {number for _, number in map(kind_of, lines)}
     missing = sorted(set(NUMBERS_DUE[letter]) - seen)
@@ -2795,12 +2859,15 @@ def check_numbers(letter, lines):
 def check(letters, directory):
     check_interview()
     check_apart()
+    check_halves()
     check_bad_cases()
     check_examples()
     cases, lines = answered_cases(letters)
     for name, made in (("stdin", contents_of(cases)), ("stdout", text_of(lines))):
         check_same(directory / name, stored_bytes(directory / name), made)
     check_options(cases)
+    if "D" in letters:
+        check_sizes(cases, lines)
     for letter in letters:
         own = [line for case, line in zip(cases, lines) if case.letter() == letter]
         check_numbers(letter, own)

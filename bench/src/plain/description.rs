@@ -95,6 +95,12 @@ fn refuse_if(fault: bool, number: u8) -> Result<(), u8> {
     if fault { Err(number) } else { Ok(()) }
 }
 
+/// Whole gigabytes for a size in tenths: up past a half, and at the half from an odd number.
+fn charged(size: u16) -> u16 {
+    let whole = size / 10;
+    whole + u16::from(size % 10 + whole % 2 > 5)
+}
+
 impl Description {
     fn nothing() -> Self {
         let kind = Kind::Datum {
@@ -183,7 +189,7 @@ impl Description {
         self.blocks.push(Block {
             level,
             kind: Kind::Datum {
-                gigabytes: size.div_ceil(10),
+                gigabytes: charged(size),
                 longevity,
             },
             pin: None,

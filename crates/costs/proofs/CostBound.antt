@@ -20,6 +20,7 @@ use Rattle.security.specs.Soundness.{read}
 use Rattle.costs.specs.Transfers.{Transfer, transfersFrom, transfers}
 use Rattle.weights.specs.Weights.{costLimit}
 use Rattle.costs.specs.Cost.{gigabytes, chargedOf, storageOf, cpuOf, transferCost, ofBlocks, billOf, total, cost, AmountsBelow}
+use Rattle.costs.proofs.Rounding.{charge-nearest}
 use Rattle.costs.proofs.Transferring.{transfers-length}
 use Rattle.security.proofs.Accepted.{read-bounded}
 
@@ -39,10 +40,9 @@ mostTransfer = 131070 * 6554
 times : {a b : ℕ} (m n : ℕ) → a ≤ m → b ≤ n → a * b ≤ m * n
 times m n = mul-le-mul
 
--- 65,535 tenths, rounded up, are 6,554
+-- the highest size, 65,535 tenths, is halfway from 6,553 to 6,554, and the even one is charged
 pub gigabytes-most : (size : ℕ) → size < 65536 → gigabytes size ≤ 6554
-unfolding gigabytes
-gigabytes-most size h = omega arith
+gigabytes-most size h = omega (arith, charge-nearest size .within)
 
 -- gigabytes charged, of a block of any kind
 pub charged-most : (k : Kind) → kindFits k → chargedOf k ≤ 6554

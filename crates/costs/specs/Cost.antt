@@ -1,5 +1,6 @@
 -- What a placement costs: three amounts, for storage, transfers and computing, which are its bill, and their sum.
-use Prim.Native.Nat.{ℕ, _+_, _*_, _/_, _<_}
+use Prim.Native.Nat.{ℕ, _+_, _-_, _*_, _/_, _%_, _≤_, _<_}
+use mathlib.Core.Path.{_≡_}
 use mathlib.Core.Bool.{cond}
 use mathlib.Core.List.{List, map}
 use lib.ListN.{length, getD}
@@ -14,9 +15,20 @@ use Rattle.costs.specs.Transfers.{Transfer, transferOf, transfers}
 use Rattle.sequences.specs.Lists.{below, sum}
 use Rattle.weights.specs.Weights.{costLimit}
 
--- gigabytes charged: the size, in tenths, over 10, rounded up
+-- gigabytes charged: the size, in tenths, over 10, rounded to the nearest whole number, an exact half to the even neighbour. The 4 carries
+-- every size above the half; where the number below is odd, one more carries the half itself
 unfoldable pub gigabytes : ℕ → ℕ
-gigabytes size = (size + 9) / 10
+gigabytes size = (size + 4 + size / 10 % 2) / 10
+
+-- by how much two numbers differ; one of the two subtractions stops at 0
+abbrev pub difference : ℕ → ℕ → ℕ
+difference m n = (m - n) + (n - m)
+
+-- The rule itself, without a formula: g gigabytes, as tenths, differ from the size by at most 5, and if they differ by exactly 5, which is
+-- the half, g is even. `charge-nearest` and `charge-alone`: the charge of every size is such a number, and the only one.
+pub record Nearest (size g : ℕ) : Type 0 where
+  pub within : difference (10 * g) size ≤ 5
+  pub half : difference (10 * g) size ≡ 5 → g % 2 ≡ 0
 
 abbrev pub chargedOf : Kind → ℕ
 chargedOf (Datum size longevity) = gigabytes size

@@ -15,12 +15,17 @@ use description::workflow::cloud_at;
 use security::placements::cloud_of;
 use sequences::wide;
 
-// Gigabytes charged for a size in tenths.
+// Gigabytes charged for a size in tenths: one more where the rest is above a half, or is the half after an odd number.
 pub fn gigabytes(size: u16) -> u64
     ensures { λ r. ⌜ r ≡ gigabytes size ⌝ }
     ensures { λ r. ⌜ r ≤ 6554 ⌝ }
 {
-    (size as u64 + 9) / 10
+    let tenths = size as u64;
+    let whole = tenths / 10;
+    if tenths % 10 + whole % 2 > 5 {
+        return whole + 1;
+    }
+    whole
 }
 
 pub fn charged_of(k: Kind) -> u64

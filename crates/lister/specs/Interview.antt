@@ -56,7 +56,7 @@ pub record Interview : Type 0 where
       (censusCall homeless ≡ ok (record { candidates = 0; breaking16 = 0; breaking17only = 0; apartonly = 0; secure = 0; options = 0 })) ×
       ((cost : ℕ) (placement : List ℕ) → drawCall homeless (record { start = true; cost = cost; placement = placement }) ≡ ok none)
   -- the gigabytes that sizes 0, 1, 10 and 11 are charged as
-  pub case8 : map gigabytes (0 ∷ 1 ∷ 10 ∷ 11 ∷ []) ≡ 0 ∷ 1 ∷ 1 ∷ 2 ∷ []
+  pub case8 : map gigabytes (0 ∷ 1 ∷ 10 ∷ 11 ∷ []) ≡ 0 ∷ 0 ∷ 1 ∷ 1 ∷ []
   -- 2^16 and 3^10 candidates are accepted, and 3^11 are too many
   pub case9 : (readCall (flat 16 2) ≡ accepted 2 16 0) × (candidatesOf (read (flat 16 2)) ≡ ok 65536)
   pub case10 : (readCall (flat 10 3) ≡ accepted 3 10 0) × (candidatesOf (read (flat 10 3)) ≡ ok 59049)

@@ -12,6 +12,7 @@ use crate::generate::Kind;
 use crate::lent::{Checked, Lent};
 use crate::operands::{cursor, placement, room, rooms};
 use crate::tally::{Call, Tally};
+use crate::text::has_half;
 use crate::wrapped;
 
 /// Where library and reference part.
@@ -105,6 +106,7 @@ impl<'a> Input<'a> {
         if walks {
             self.rows = described.rows();
         }
+        let pays_half = self.rows.iter().any(pays_for_data) && has_half(self.text.get());
         let shown = [
             ("8 clouds", described.clouds.len() == 8),
             ("16 blocks", described.blocks.len() == 16),
@@ -116,6 +118,7 @@ impl<'a> Input<'a> {
             ("no candidates", candidates == 0),
             ("no rows", walks && candidates > 0 && self.rows.is_empty()),
             ("three amounts", self.rows.iter().any(has_three_amounts)),
+            ("half charged", pays_half),
         ];
         self.show(&shown);
         walks
@@ -311,6 +314,10 @@ impl<'a> Input<'a> {
 
 fn has_three_amounts(row: &Row) -> bool {
     ![row.storage, row.transfer, row.cpu].contains(&0)
+}
+
+fn pays_for_data(row: &Row) -> bool {
+    row.storage + row.transfer > 0
 }
 
 impl Case<'_> {

@@ -132,6 +132,17 @@ impl<'a> Text<'a> {
         number.to_be_bytes()
     }
 
+    /// Low sizes, in tenths, are charged as 0 to 4 gigabytes; of the others many are at a half.
+    fn size(&mut self) -> [u8; 2] {
+        match self.prices {
+            Prices::Low => (self.random.below(46) as u16).to_be_bytes(),
+            Prices::Any if self.random.one_in(2) => {
+                (self.random.below(6_554) as u16 * 10 + 5).to_be_bytes()
+            }
+            _ => self.number(),
+        }
+    }
+
     pub fn cloud(&mut self, level: u8) {
         self.clouds.push(level);
         self.bytes.extend([CLOUD, level]);
@@ -143,11 +154,9 @@ impl<'a> Text<'a> {
 
     pub fn datum(&mut self, level: u8) {
         self.block(true, level, 0);
+        let [size, longevity] = [self.size(), self.number()];
         self.bytes.extend([DATUM, level]);
-        for _ in 0..2 {
-            let number = self.number();
-            self.bytes.extend(number);
-        }
+        self.bytes.extend([size, longevity].concat());
     }
 
     pub fn service(&mut self, location: u8, clearance: u8) {
@@ -303,6 +312,15 @@ impl<'a> Text<'a> {
         self.bytes.push(END);
         self.bytes
     }
+}
+
+/// Some datum's size is halfway between two whole numbers of gigabytes.
+pub fn has_half(text: &[u8]) -> bool {
+    let is_half = |command: &[u8]| match *command {
+        [DATUM, _, high, low, ..] => u16::from_be_bytes([high, low]) % 10 == 5,
+        _ => false,
+    };
+    commands(text).into_iter().any(|at| is_half(&text[at]))
 }
 
 /// Where the commands of a text are, as far as there are any.

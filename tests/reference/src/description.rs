@@ -1,4 +1,5 @@
-//! The bytes of a description and what they declare (docs/FORMAT.md, sections 1 and 6).
+//! The bytes of a description and what they declare (docs/FORMAT.md, sections 1 and 6), with the
+//! gigabytes that a datum is charged for (section 3).
 
 use std::fmt;
 
@@ -104,6 +105,16 @@ fn number(bytes: &[u8]) -> u64 {
     bytes.iter().fold(0, |n, &byte| n * 256 + u64::from(byte))
 }
 
+/// Whole gigabytes for a size in tenths: the nearest number, and of two that are as near the even.
+fn charged(size: u64) -> u64 {
+    let whole = size / 10;
+    match size % 10 {
+        0..5 => whole,
+        5 => whole + whole % 2,
+        _ => whole + 1,
+    }
+}
+
 /// The number of a fault, if there is one.
 fn refuse_if(fault: bool, number: u8) -> Result<(), u8> {
     if fault { Err(number) } else { Ok(()) }
@@ -149,7 +160,7 @@ impl Description {
         refuse_if(self.blocks.len() == 16, 4)?;
         refuse_if(operands[0] > 15, 5)?;
         let kind = Kind::Datum {
-            gigabytes: number(&operands[1..3]).div_ceil(10),
+            gigabytes: charged(number(&operands[1..3])),
             longevity: number(&operands[3..5]),
         };
         self.add_block(operands[0], kind);
