@@ -1675,15 +1675,20 @@ def random_placement(dice, made):
     return placed(*(dice.below(len(made.clouds)) for _ in made.blocks))
 
 
+def judge_assorted(dice, made, text, most, bent):
+    """Candidates of every verdict, and so many that are bent."""
+    found = assorted_candidates(dice, made, most)
+    for placement in found:
+        yield judge_case(text, placement)
+    for _ in range(bent):
+        yield judge_case(text, bend(dice, made, dice.choice(found)))
+
+
 def judge_random(dice):
     for _ in range(110):
         made = random_workflow(dice)
         text = b"".join(commands_of(dice, made))
-        found = assorted_candidates(dice, made, 2)
-        for placement in found:
-            yield judge_case(text, placement)
-        yield judge_case(text, bend(dice, made, dice.choice(found)))
-        yield judge_case(text, bend(dice, made, dice.choice(found)))
+        yield from judge_assorted(dice, made, text, most=2, bent=2)
         yield judge_case(text, random_placement(dice, made))
     for _ in range(60):
         made = random_workflow(dice)
@@ -1699,10 +1704,7 @@ def judge_apart_random(dice):
     for _ in range(70):
         made = apart_workflow(dice)
         text = b"".join(commands_of(dice, made))
-        found = assorted_candidates(dice, made, 3)
-        for placement in found:
-            yield judge_case(text, placement)
-        yield judge_case(text, bend(dice, made, dice.choice(found)))
+        yield from judge_assorted(dice, made, text, most=3, bent=1)
 
 
 def judge_cases(dice):
