@@ -18,9 +18,9 @@ import re
 import subprocess
 import sys
 
-from bruteforce import (ROOT, Refused, Tape, count_candidates, cursor_bytes, known_row,
-                        listing, read, require, row_at, row_line, stored_bytes, verdict,
-                        with_length)
+from bruteforce import ROOT, known_row, require, stored_bytes
+from cases import Tape, cursor_bytes, row_line, verdict, with_length
+from model import Refused, count_candidates, listing, read, row_at
 
 PROGRAMS = ROOT / "target" / "bin"
 OPERANDS = {"R": 0, "J": 16, "C": 0, "D": 25, "T": 18}   # bytes behind the description
