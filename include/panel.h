@@ -1,5 +1,5 @@
 /*
- * The placement engine for C: six calls on a description of a workflow and its clouds. docs/FORMAT.md has the format, the rules and
+ * The placement engine for C: eight calls on a description of a workflow and its clouds. docs/FORMAT.md has the format, the rules and
  * what a placement, a row and an option are; each call is proved to do what the definitions behind that document say.
  *
  * A description is any bytes with their length. Nothing has to hold of them: what is wrong comes back as a refusal.
@@ -21,11 +21,12 @@
  *    10      rule 3: a service reads above its clearance                            edge
  *    11      rule 4: a service writes below its location                            edge
  *    12      more than 65,536 candidates                                            0
- *    13      the placement is no candidate (panel_judge, panel_transfers)           position of the byte
- *    14      rule 16: a read copies a datum to too low a cloud (the same two)       edge
- *    15      rule 17: a write does (the same two)                                   edge
- *    16      too little room (panel_transfers, panel_list)                          bytes, or words of rows, that are needed
- *    17      a cloud holds both data of a pair (panel_judge, panel_transfers)       pair
+ *    13      the placement is no candidate (panel_judge, panel_transfers,           position of the byte
+ *            panel_picture, panel_picture_size)
+ *    14      rule 16: a read copies a datum to too low a cloud (the same four)      edge
+ *    15      rule 17: a write does (the same four)                                  edge
+ *    16      too little room (panel_transfers, panel_picture, panel_list)           bytes, or words of rows, that are needed
+ *    17      a cloud holds both data of a pair (the four of 13)                     pair
  *
  * A pair is two data that command 07 keeps apart; pairs are numbered from 0, and copies that transfers make count. A placement is looked
  * at for 13, 14, 15 and 17 in this order, and 16 comes last.
@@ -39,7 +40,7 @@
  * writes what another is lent. No call allocates, and each ends. PANEL_STACK bytes of stack are enough for any call: this was measured and
  * read from the compiled code, and is not proved.
  *
- * Example: all rows, the cheapest first, one draw at a time (examples/list.c lists them with one call).
+ * Example: all rows, the cheapest first, one draw at a time (examples/list.c lists them with one call, and prints pictures).
  *
  *     uint8_t past[PANEL_BLOCKS] = {0}, row[PANEL_BLOCKS];
  *     uint64_t answer[5];
@@ -61,6 +62,7 @@
 
 #define PANEL_BLOCKS 16      /* bytes of a placement: the cloud of each block, and 0 where there is no block */
 #define PANEL_TRANSFERS 128  /* bytes that hold the transfers of any placement */
+#define PANEL_PICTURE 1374   /* bytes that hold the picture of any placement */
 #define PANEL_ROW 5          /* words of a row in a list */
 #define PANEL_LIST 327680    /* words that hold the rows of any description */
 #define PANEL_SCRATCH 131072 /* words of scratch that are enough for any description */
@@ -92,6 +94,21 @@ uint64_t panel_judge(const uint8_t *description, size_t length, const uint8_t pl
  */
 uint64_t panel_transfers(const uint8_t *description, size_t length, const uint8_t placement[16],
                          uint8_t *buffer, size_t room, uint64_t count[1]);
+
+/*
+ * Picture: a secure placement as Graphviz text, a line for each edge and then for each block without one (docs/FORMAT.md). Refuses with
+ * 1 to 17.
+ * buffer: the text at the front, in ASCII and without a zero byte at its end; the bytes behind it stay. room is its length in bytes.
+ * count: how many bytes the text has.
+ */
+uint64_t panel_picture(const uint8_t *description, size_t length, const uint8_t placement[16],
+                       uint8_t *buffer, size_t room, uint64_t count[1]);
+
+/*
+ * Picture size: how many bytes panel_picture writes for a secure placement. Refuses with 1 to 15, and with 17.
+ * count: that number.
+ */
+uint64_t panel_picture_size(const uint8_t *description, size_t length, const uint8_t placement[16], uint64_t count[1]);
 
 /*
  * Census: how many placements and options there are. Refuses with 1 to 12.

@@ -1,10 +1,10 @@
 #!/usr/bin/env python3
 """The brute-force model (model.py) as a command, with the cases that are stored.
 
-    bruteforce.py answer [--letters RJTCD]        cases in, one line for each out
-    bruteforce.py list                            a description in, its rows out
-    bruteforce.py generate [--letters RJTCD] DIR  write DIR/stdin and DIR/stdout
-    bruteforce.py check [--letters RJTCD] DIR     are they what would be written today?
+    bruteforce.py answer [--letters RJTCDPB]        cases in, one line for each out
+    bruteforce.py list                              a description in, its rows out
+    bruteforce.py generate [--letters RJTCDPB] DIR  write DIR/stdin and DIR/stdout
+    bruteforce.py check [--letters RJTCDPB] DIR     are they what would be written today?
 
 Parts: the cases that are stored, letter by letter; the checks; the command line.
 """
@@ -22,18 +22,20 @@ from cases import (ALL_READ, APART_COMMANDS, EIGHT_APART, EIGHT_CLOUDS, EIGHT_PA
                    FILES, FIVE_DATA, GUARDED, LETTERS, LONGEST, LONGEST_APART, M, MIXED_COMMANDS,
                    MIXED_EDGES, M_APART, M_COMMANDS, PAIR, PAIRS_OF_FIVE, REFUSED_BY_READ, SECOND,
                    SIXTEEN_BLOCKS, SIXTEEN_PINS, SOME_WRITE, STEPS, STOP, THIRTY_TWO_EDGES, TRIO,
-                   TWO_BY_TWO, Dice, accepted, add_random_pairs, answer_all, apart, apart_workflow,
+                   TWO_BY_TWO, accepted, add_random_pairs, answer_all, apart, apart_workflow,
                    assorted_candidates, bend, census_case, cloud, commands_of, counted,
-                   cursor_bytes, damage_bytes, damage_commands, datum, draw_case, judge_case,
-                   meeting, pin, placed, random_placement, random_text, random_workflow, read_case,
-                   reads, refused, refused_at_each, rooms, row_line, ruled, service, spoil,
-                   start_case, together, transfers_case, untouched, verdict, with_buffer,
-                   with_length, writes)
+                   cursor_bytes, damage_bytes, damage_commands, datum, dice_of, draw_case,
+                   judge_case, meeting, picture_case, pin, placed, random_placement, random_text,
+                   random_workflow, read_case, reads, refused, refused_at_each, rooms, row_line,
+                   ruled, service, size_case, spoil, start_case, together, transfers_case,
+                   untouched, verdict, with_buffer, with_length, writes)
 from model import (HIGHEST, MOST_BLOCKS, MOST_CANDIDATES, MOST_CLOUDS, MOST_EDGES, MOST_PAIRS,
                    READS, WRITES, Amounts, Cloud, Datum, Description, Edge, Refused, Row, Service,
-                   allowed, candidates, census, count_candidates, decode, draw, gigabytes,
-                   is_secure, judge, keeps_rule_3, keeps_rule_4, listing, moves, option_of, read,
-                   row_at, rows)
+                   allowed, candidates, census, count_candidates, decode, digits, draw, gigabytes,
+                   is_secure, judge, keeps_rule_3, keeps_rule_4, listing, moves, option_of,
+                   picture, picture_of, picture_size, read, row_at, rows)
+from picture_cases import (INTERVIEW_PICTURE, compare_sizes, fault_in, missing_kinds,
+                           picture_cases, size_cases)
 
 
 # ---- The stored cases: Read -----------------------------------------------------------
@@ -1517,17 +1519,18 @@ def draw_cases(dice):
 # In the order in which they are stored.  Each group has dice of its own, so a letter
 # that is added here at the end leaves what stands before it as it is.
 GROUPS = {"R": read_cases, "J": judge_cases, "T": transfers_cases, "C": census_cases,
-          "D": draw_cases}
+          "D": draw_cases, "P": picture_cases, "B": size_cases}
 
 NUMBERS_DUE = {"R": range(1, 13), "J": (*range(1, 16), 17), "T": range(1, 18),
-               "C": range(1, 13), "D": range(1, 13)}
+               "C": range(1, 13), "D": range(1, 13), "P": range(1, 18),
+               "B": (*range(1, 16), 17)}
 
 
 def stored_cases(letters):
     seen = set()                                           # the same bytes twice teach nothing,
     for letter, group in GROUPS.items():                   # but for draws that are repeated
         if letter in letters:
-            for case in group(Dice(f"cases {letter}")):
+            for case in group(dice_of(letter)):
                 if case.again or case.content not in seen:
                     yield case
                 seen.add(case.content)
@@ -1623,6 +1626,14 @@ def check_halves():
     require([gigabytes(size) for size in (4, 5, 6, 15, 25, 35)] == [0, 0, 1, 2, 2, 4], "halves")
 
 
+def check_picture():
+    """The picture of the interview's row 11000, in a buffer with one byte more."""
+    buffer = bytearray(untouched(len(INTERVIEW_PICTURE) + 1))
+    require(picture(M, placed(1, 1), buffer) == picture_size(M, placed(1, 1)) == 95,
+            "picture: the bytes of 11000")
+    require(buffer == INTERVIEW_PICTURE + untouched(1), "picture: 11000")
+
+
 def check_bad_cases():
     """What is no case ends the answers."""
     whole = read_case(M).content
@@ -1633,10 +1644,16 @@ def check_bad_cases():
                            (transfers_case(M, placed(), 5).content[:-1], ["bad case"]),
                            (judge_case(M, placed()).content[:-1], ["bad case"])):
         require(answer_all(content, "RJT") == lines, f"bad case: {content.hex()}")
-    drawn = draw_case(M, None).content
-    for case in (whole, drawn):
-        for length in range(1, len(case)):
-            require(answer_all(case[:length], LETTERS) == ["bad case"], f"cut at {length}")
+    for case in (read_case(M), draw_case(M, None), picture_case(M, placed(), 5),
+                 size_case(M, placed())):
+        for length in range(1, len(case.content)):
+            cut = case.content[:length]
+            require(answer_all(cut, LETTERS) == ["bad case"], f"{case.letter()} cut at {length}")
+    for make in (transfers_case, picture_case):            # a buffer that is too long to lend
+        for text in (M, STOP):
+            for room, is_case in ((2048, True), (2049, False), (65535, False)):
+                lines = answer_all(make(text, placed(), room).content, LETTERS)
+                require((lines != ["bad case"]) == is_case, f"a buffer of {room} bytes")
     for text in (M, STOP):                                 # a cursor is the start or a row
         for flag in (2, 128, 255):
             content = with_length(b"D", text) + cursor_bytes(flag, 0, placed())
@@ -1644,7 +1661,7 @@ def check_bad_cases():
 
 
 def check_examples():
-    """The stored examples: their bytes, the listing that shows these, and their rows."""
+    """The stored examples: their bytes, the listing that shows these, their rows, a picture."""
     examples = ROOT / "examples"
     for name, text in (("interview", M), ("second", SECOND), ("apart", M_APART)):
         require(stored_bytes(examples / f"{name}.bin") == text, f"examples/{name}.bin differs")
@@ -1652,6 +1669,12 @@ def check_examples():
                 f"examples/{name}.txt does not show the bytes of {name}.bin")
         require(stored_bytes(examples / f"{name}.expected") == text_of(listing(text)),
                 f"examples/{name}.expected is not the list of {name}.bin")
+    for name, text, placement in (("interview", M, placed(1, 1)),
+                                  ("second", SECOND, rows(SECOND)[0].placement),
+                                  ("apart", M_APART, rows(M_APART)[0].placement)):
+        drawn = picture_of(read(text), placement).encode("ascii")
+        require(stored_bytes(examples / f"{name}.dot") == drawn,
+                f"examples/{name}.dot is not the picture of {digits(placement)}")
 
 
 def shown_bytes(path):
@@ -1787,6 +1810,29 @@ def check_sizes(cases, lines):
     require(not missing, f"no row has a datum of size {missing}")
 
 
+def check_pictures(cases, lines):
+    """The answers of Picture: each by itself, and what they show between them."""
+    own = [line for case, line in zip(cases, lines) if case.letter() == "P"]
+    for line in own:
+        fault = fault_in(line)
+        require(fault is None, f"{fault}: {line}")
+    missing, seen = missing_kinds(own)
+    require(not missing, f"no answer of Picture shows {missing}")
+    print(f"{len(own)} pictures asked for; "
+          + ", ".join(f"{kind}: {times}" for kind, times in sorted(seen.items())))
+
+
+SIZES_MET = 150                 # cases of the size whose placement Picture is asked for, too
+
+
+def check_picture_sizes(cases, lines):
+    """The forecast is what is written, and what a short buffer is refused with."""
+    met, contradicted = compare_sizes(cases, lines)
+    require(not contradicted, f"another size: {[case.content.hex() for case in contradicted]}")
+    require(met >= SIZES_MET, f"only {met} sizes are of placements that have a case of Picture")
+    print(f"{met} sizes beside their pictures")
+
+
 def check_numbers(letter, lines):
     seen = {number for _, number in map(kind_of, lines)}
     missing = sorted(set(NUMBERS_DUE[letter]) - seen)
@@ -1797,6 +1843,7 @@ def check(letters, directory):
     check_interview()
     check_apart()
     check_halves()
+    check_picture()
     check_bad_cases()
     check_examples()
     cases, lines = answered_cases(letters)
@@ -1805,6 +1852,10 @@ def check(letters, directory):
     check_options(cases)
     if "D" in letters:
         check_sizes(cases, lines)
+    if "P" in letters:
+        check_pictures(cases, lines)
+    if {"P", "B"} <= set(letters):
+        check_picture_sizes(cases, lines)
     for letter in letters:
         own = [line for case, line in zip(cases, lines) if case.letter() == letter]
         check_numbers(letter, own)

@@ -12,13 +12,14 @@ from typing import NamedTuple
 from model import (APART, CLOUD, DATUM, END, HIGHEST, MOST_BLOCKS, MOST_CANDIDATES, MOST_PAIRS,
                    PIN, READS, SERVICE, WIDTHS, WRITES, Cloud, Datum, Description, Edge, Refused,
                    Service, allowed, census, check_placement, count_candidates, draw, judge,
-                   keeps_rule_3, keeps_rule_4, one_too_many, read, said_before, transfers)
+                   keeps_rule_3, keeps_rule_4, one_too_many, picture, picture_size, read,
+                   said_before, transfers)
 
 
 # ---- Cases and their answers ----------------------------------------------------------
 
-LETTERS = "RJCDT"
-MOST_ROOM = 1024                # bytes of a lent buffer
+LETTERS = "RJCDTPB"
+MOST_ROOM = 2048                # bytes of a lent buffer
 FILLER = 0xA5                   # what a lent buffer holds before the call
 
 
@@ -75,23 +76,41 @@ def row_line(row):
 
 
 def answer_transfers(text, tape):
+    return answer_lent("transfers", transfers, text, tape)
+
+
+def answer_picture(text, tape):
+    return answer_lent("picture", picture, text, tape)
+
+
+def answer_lent(word, call, text, tape):
+    """The answer of a call that is lent a buffer, and the buffer as the call leaves it."""
     placement, room = tape.take(16), tape.number(2)
     if room > MOST_ROOM:
         raise BadCase
-    buffer = bytearray([FILLER] * room)
+    buffer = bytearray(untouched(room))
     try:
-        words = f"transfers {transfers(text, placement, buffer)}"
+        words = f"{word} {call(text, placement, buffer)}"
     except Refused as refusal:
         words = str(refusal)
     return with_buffer(words, buffer)
+
+
+def untouched(room):
+    return bytes([FILLER] * room)
 
 
 def with_buffer(words, buffer):
     return f"{words} {buffer.hex()}" if buffer else words
 
 
-ANSWERS = {"R": answer_read, "J": answer_judge, "C": answer_census,
-           "D": answer_draw, "T": answer_transfers}
+def answer_size(text, tape):
+    placement = tape.take(16)
+    return f"bytes {picture_size(text, placement)}"
+
+
+ANSWERS = {"R": answer_read, "J": answer_judge, "C": answer_census, "D": answer_draw,
+           "T": answer_transfers, "P": answer_picture, "B": answer_size}
 
 
 def answer_one(tape, letters):
@@ -130,6 +149,11 @@ class Case(NamedTuple):
     def text(self):
         return self.content[3:3 + int.from_bytes(self.content[1:3], "big")]
 
+    def placement(self):
+        """What follows the description in all cases but those of Read, Census and Draw."""
+        after = 3 + len(self.text())
+        return self.content[after:after + 16]
+
 
 class Dice:
     """Chance from Random.random alone, whose sequence Python promises to keep."""
@@ -155,6 +179,11 @@ class Dice:
     def shuffled(self, items):
         left = list(items)
         return [left.pop(self.below(len(left))) for _ in items]
+
+
+def dice_of(letter):
+    """Each letter has dice of its own: one more leaves the cases of the others as they are."""
+    return Dice(f"cases {letter}")
 
 
 def encode(command, *operands):
@@ -207,6 +236,14 @@ def judge_case(text, placement, expected=None):
 
 def transfers_case(text, placement, room, expected=None):
     return Case(with_length(b"T", text) + placement + room.to_bytes(2, "big"), expected)
+
+
+def picture_case(text, placement, room, expected=None):
+    return Case(with_length(b"P", text) + placement + room.to_bytes(2, "big"), expected)
+
+
+def size_case(text, placement, expected=None):
+    return Case(with_length(b"B", text) + placement, expected)
 
 
 def census_case(text, expected=None):
@@ -365,10 +402,6 @@ EIGHT_TWOS = [apart(2 * pair, 2 * pair + 1) for pair in range(8)]
 def together(pairs):
     """The data of these pairs side by side, those of the others on two clouds."""
     return bytes(0 if block // 2 in pairs else block % 2 for block in range(16))
-
-
-def untouched(room):
-    return bytes([FILLER] * room)
 
 
 # ---- Random descriptions --------------------------------------------------------------

@@ -28,6 +28,7 @@ for name in interview second apart; do
     target/rust/debug/examples/list <"examples/$name.bin" | cmp - "examples/$name.expected"
 done
 test "$(printf '\000' | target/rust/debug/examples/list)" = 'refused 8 1'
+tests/pictures.sh target/rust/debug/examples/list
 build test tests/differential --release
 build build tests/differential --release
 target/rust/release/differential 1000000 1

@@ -23,7 +23,8 @@ from cases import Tape, cursor_bytes, row_line, verdict, with_length
 from model import Refused, count_candidates, listing, read, row_at
 
 PROGRAMS = ROOT / "target" / "bin"
-OPERANDS = {"R": 0, "J": 16, "C": 0, "D": 25, "T": 18}   # bytes behind the description
+# Bytes behind the description.
+OPERANDS = {"R": 0, "J": 16, "C": 0, "D": 25, "T": 18, "P": 18, "B": 16}
 NUMBER = r"(0|[1-9][0-9]*)"
 ROW = re.compile(rf"{NUMBER} ([0-7]+) {NUMBER} {NUMBER} {NUMBER}")
 MOST_DRAWS = 100

@@ -4,7 +4,8 @@ It knows no algorithm: decode the bytes, check the rules, enumerate the candidat
 each one, group the secure ones by option, keep the first of every group, sort.  It shares
 nothing with what it is compared to.
 
-Parts: the description; its rules; placements; options and rows; the calls.
+Parts: the description; its rules; placements; options and rows; the picture of a
+placement; the calls.
 """
 
 import bisect
@@ -437,6 +438,31 @@ def rows_of(described):
     return sorted((min(group, key=Row.cursor) for group in groups.values()), key=Row.cursor)
 
 
+# ---- The picture of a placement -------------------------------------------------------
+
+def edge_line(number, edge, placement):
+    """An edge's line, of the clouds A of its writer, B of its datum and C of its reader."""
+    e, d, s = number, edge.datum, edge.service
+    if edge.command == READS:
+        b, c = placement[d], placement[s]
+        if b == c:
+            return f"d{d}_{b} -> s{s}_{b};"
+        return f"d{d}_{b} -> x{e} -> d{d}_{c}_e{e} -> s{s}_{c};"
+    a, b = placement[s], placement[d]
+    if a == b:
+        return f"s{s}_{a} -> d{d}_{a};"
+    return f"s{s}_{a} -> d{d}_{a}_e{e} -> x{e} -> d{d}_{b};"
+
+
+def picture_of(described, placement):
+    """The Graphviz text of a placement: its edges, then the blocks that have none."""
+    lines = [edge_line(e, edge, placement) for e, edge in enumerate(described.edges)]
+    for b, block in enumerate(described.blocks):
+        if not any(b in (edge.service, edge.datum) for edge in described.edges):
+            lines.append(f"{'d' if isinstance(block, Datum) else 's'}{b}_{placement[b]};")
+    return "digraph p {\n" + "".join(f"  {line}\n" for line in lines) + "}\n"
+
+
 # ---- The calls ------------------------------------------------------------------------
 
 KEPT = 2048                     # answers remembered: one description serves many cases
@@ -504,6 +530,20 @@ def transfers(text, placement, buffer):
         raise Refused(16, needed)
     buffer[:needed] = bytes(itertools.chain.from_iterable(found))
     return len(found)
+
+
+def picture(text, placement, buffer):
+    """Fills the buffer from its beginning and returns the number of bytes."""
+    needed = picture_size(text, placement)
+    if len(buffer) < needed:
+        raise Refused(16, needed)
+    buffer[:needed] = picture_of(read(text), placement).encode("ascii")
+    return needed
+
+
+def picture_size(text, placement):
+    judge(text, placement)
+    return len(picture_of(read(text), placement))
 
 
 def listing(text):

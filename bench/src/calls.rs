@@ -28,7 +28,9 @@ struct Subject {
 struct Lent {
     counts: [u64; 3],
     transfers: [u8; 128],
+    picture: [u8; engine::PICTURE],
     count: u64,
+    size: u64,
     figures: [u64; 6],
     answer: [u64; 5],
     row: [u8; 16],
@@ -53,7 +55,7 @@ const fn call(name: &'static str, limit: u8, engine: Ask, plain: Ask) -> Call {
     Call { name, limit, sides }
 }
 
-const CALLS: [Call; 6] = [
+const CALLS: [Call; 8] = [
     call(
         "Read",
         1,
@@ -71,6 +73,18 @@ const CALLS: [Call; 6] = [
         1,
         |of, l| engine::transfers(&of.text, &of.placement, &mut l.transfers, &mut l.count),
         |of, l| plain::transfers(&of.text, &of.placement, &mut l.transfers, &mut l.count),
+    ),
+    call(
+        "Picture",
+        1,
+        |of, l| engine::picture(&of.text, &of.placement, &mut l.picture, &mut l.count),
+        |of, l| plain::picture(&of.text, &of.placement, &mut l.picture, &mut l.count),
+    ),
+    call(
+        "Picture size",
+        2,
+        |of, lent| engine::picture_size(&of.text, &of.placement, &mut lent.size),
+        |of, lent| plain::picture_size(&of.text, &of.placement, &mut lent.size),
     ),
     call(
         "Census",
@@ -100,7 +114,7 @@ const CALLS: [Call; 6] = [
 ];
 
 /// The seconds of each call, the engine's first.
-type Times = [[f64; 2]; 6];
+type Times = [[f64; 2]; CALLS.len()];
 
 /// Compares the answers, measures, and prints the tables.
 pub fn call_ratios() -> io::Result<()> {
@@ -157,7 +171,9 @@ impl Lent {
         Lent {
             counts: [0; 3],
             transfers: [0; 128],
+            picture: [0; engine::PICTURE],
             count: 0,
+            size: 0,
             figures: [0; 6],
             answer: [0; 5],
             row: [0; 16],
@@ -202,7 +218,7 @@ fn agree_on_refusals(subject: &Subject) -> io::Result<()> {
 /// For each subject the least times of all calls. Everything takes turns, so that whatever else the
 /// machine does meets all alike.
 fn least_times(subjects: &[Subject], lent: &mut [Lent; 2]) -> Vec<Times> {
-    let mut times = vec![[[f64::INFINITY; 2]; 6]; subjects.len()];
+    let mut times = vec![[[f64::INFINITY; 2]; CALLS.len()]; subjects.len()];
     for _ in 0..ROUNDS {
         for (subject, times) in subjects.iter().zip(&mut times) {
             for (call, times) in CALLS.iter().zip(times) {
@@ -230,7 +246,7 @@ fn time_of(ask: Ask, subject: &Subject, lent: &mut Lent, calls: usize) -> f64 {
 }
 
 fn print_table(
-    headings: &[String; 6],
+    headings: &[String; CALLS.len()],
     subjects: &[Subject],
     times: &[Times],
     cell: impl Fn(f64, f64) -> String,

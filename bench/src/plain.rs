@@ -1,4 +1,4 @@
-//! The six calls as one writes them in Rust: from the bytes, with all refusals, by enumeration.
+//! The eight calls as one writes them in Rust: from the bytes, with all refusals, by enumeration.
 //! `calls.rs` measures the engine against them.
 //!
 //! Unlike `tests/reference` they keep on the stack what has a highest number: on a small description
@@ -6,12 +6,14 @@
 
 mod candidates;
 mod description;
+mod picture;
 
-use panel::calls::ROW;
+use panel::calls::{PICTURE, ROW};
 use panel::{Placement, Refusal};
 
 use candidates::{Clouds, Conflicts, Sameness, packed, unpacked};
 use description::{Description, Few, Way, refuse_at};
+use picture::Length;
 
 pub fn read(description: &[u8], counts: &mut [u64; 3]) -> Result<(), Refusal> {
     let described = description::read(description)?;
@@ -43,6 +45,35 @@ pub fn transfers(
     fit(bytes.len(), buffer.len())?;
     buffer[..bytes.len()].copy_from_slice(bytes);
     *count = moved.len() as u64;
+    Ok(())
+}
+
+pub fn picture(
+    description: &[u8],
+    placement: &Placement,
+    buffer: &mut [u8],
+    count: &mut u64,
+) -> Result<(), Refusal> {
+    let described = description::read(description)?;
+    described.judge(&placement.0)?;
+    let mut text = Few::<u8, PICTURE>::none(0);
+    described.put_picture(&placement.0, &mut text);
+    fit(text.len(), buffer.len())?;
+    buffer[..text.len()].copy_from_slice(&text);
+    *count = text.len() as u64;
+    Ok(())
+}
+
+pub fn picture_size(
+    description: &[u8],
+    placement: &Placement,
+    count: &mut u64,
+) -> Result<(), Refusal> {
+    let described = description::read(description)?;
+    described.judge(&placement.0)?;
+    let mut length = Length(0);
+    described.put_picture(&placement.0, &mut length);
+    *count = length.0 as u64;
     Ok(())
 }
 

@@ -61,6 +61,11 @@ impl<T: Copy, const N: usize> Few<T, N> {
         self.count += 1;
     }
 
+    pub fn extend(&mut self, things: &[T]) {
+        self.things[self.count..][..things.len()].copy_from_slice(things);
+        self.count += things.len();
+    }
+
     fn refuse_if_full(&self) -> Result<(), u8> {
         refuse_if(self.count == N, 4)
     }

@@ -1,29 +1,63 @@
-//! Lists the options of the description on standard input, exactly as `listoptions` does.
+//! Lists the options of the description on standard input, exactly as `listoptions` does. With an
+//! argument, the clouds of a placement as a row shows them (such as 11000), it prints the picture of
+//! that placement instead.
 
-use std::io::{self, BufWriter, Read, Write};
+use std::env;
+use std::io::{self, Read, Write};
 use std::process::ExitCode;
 
-use panel::Description;
+use panel::{Description, Placement, Refusal};
 
-fn list() -> io::Result<()> {
+const USAGE: &str =
+    "the only argument is a placement: 1 to 16 digits from 0 to 7, the cloud of each block";
+
+/// A placement from the digits of its first blocks; the others get cloud 0. Only digits that a row
+/// can show are taken: 8 and 9 are not, since no description has nine clouds.
+fn read_placement(digits: &[u8]) -> Option<Placement> {
+    let mut placement = Placement::default();
+    let clouds = placement.0.get_mut(..digits.len())?;
+    if digits.is_empty() || !digits.iter().all(|digit| (b'0'..=b'7').contains(digit)) {
+        return None;
+    }
+    for (cloud, digit) in clouds.iter_mut().zip(digits) {
+        *cloud = digit - b'0';
+    }
+    Some(placement)
+}
+
+/// The placement that is asked for, if one is.
+fn asked() -> io::Result<Option<Placement>> {
+    let arguments: Vec<_> = env::args_os().skip(1).collect();
+    let placement = match &arguments[..] {
+        [] => return Ok(None),
+        [digits] => read_placement(digits.as_encoded_bytes()),
+        _ => None,
+    };
+    placement.map(Some).ok_or(io::Error::other(USAGE))
+}
+
+fn list(description: &Description) -> String {
+    let rows = description.list();
+    let lines: String = rows.iter().map(|row| format!("{row}\n")).collect();
+    format!("{lines}options {}\n", rows.len())
+}
+
+fn print() -> io::Result<()> {
+    let placement = asked()?;
     let mut bytes = Vec::new();
     io::stdin().read_to_end(&mut bytes)?;
-    let mut out = BufWriter::new(io::stdout().lock());
-    match Description::read(&bytes) {
-        Ok(description) => {
-            let rows = description.list();
-            for row in &rows {
-                writeln!(out, "{row}")?;
-            }
-            writeln!(out, "options {}", rows.len())?;
-        }
-        Err(refusal) => writeln!(out, "refused {} {}", refusal.number, refusal.place)?,
-    }
+    let answer = Description::read(&bytes).and_then(|description| match placement {
+        Some(placement) => description.picture(&placement),
+        None => Ok(list(&description)),
+    });
+    let refused = |refusal: Refusal| format!("refused {} {}\n", refusal.number, refusal.place);
+    let mut out = io::stdout().lock();
+    out.write_all(answer.unwrap_or_else(refused).as_bytes())?;
     out.flush()
 }
 
 fn main() -> ExitCode {
-    if let Err(error) = list() {
+    if let Err(error) = print() {
         eprintln!("list: {error}");
         return ExitCode::FAILURE;
     }

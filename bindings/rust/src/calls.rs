@@ -1,4 +1,4 @@
-//! The six calls on bytes and lent memory, as the library has them.
+//! The eight calls on bytes and lent memory, as the library has them.
 //!
 //! [`Description`](crate::Description) is more convenient. These functions are for callers who keep
 //! the memory themselves: none allocates, and none keeps anything. Each one starts with what
@@ -7,6 +7,9 @@
 
 use crate::ffi::{self, Status};
 use crate::{Cursor, Placement, Refusal};
+
+/// Bytes that hold the [`picture`] of any placement.
+pub const PICTURE: usize = 1374;
 
 /// Words of a row in a [`list`].
 pub const ROW: usize = 5;
@@ -80,6 +83,54 @@ pub fn transfers(
     count: &mut u64,
 ) -> Result<(), Refusal> {
     answered(ffi::transfers(description, &placement.0, buffer, count))
+}
+
+/// Puts the picture of a secure placement, a text in ASCII for Graphviz, at the front of the
+/// buffer. `count` is its length in bytes. What lies behind it in the buffer is as before.
+/// [`PICTURE`] bytes are always enough.
+///
+/// ```
+/// let interview = include_bytes!("../../../examples/interview.bin");
+/// let (mut buffer, mut count) = ([9; panel::calls::PICTURE], 0);
+/// panel::calls::picture(interview, &[1, 1, 0, 0, 0].into(), &mut buffer, &mut count)?;
+/// assert_eq!(count, 95);
+/// assert_eq!(buffer[..95], *include_bytes!("../../../examples/interview.dot"));
+/// assert_eq!(buffer[95], 9);
+/// # Ok::<(), panel::Refusal>(())
+/// ```
+///
+/// # Errors
+///
+/// Refuses with 1 to 15, with 17, and with 16 and the bytes needed where the buffer is shorter than
+/// that.
+pub fn picture(
+    description: &[u8],
+    placement: &Placement,
+    buffer: &mut [u8],
+    count: &mut u64,
+) -> Result<(), Refusal> {
+    answered(ffi::picture(description, &placement.0, buffer, count))
+}
+
+/// Says in `count` how many bytes [`picture`] writes for a secure placement.
+///
+/// ```
+/// let interview = include_bytes!("../../../examples/interview.bin");
+/// let mut count = 0;
+/// panel::calls::picture_size(interview, &[1, 1, 0, 0, 0].into(), &mut count)?;
+/// assert_eq!(count, 95);
+/// # Ok::<(), panel::Refusal>(())
+/// ```
+///
+/// # Errors
+///
+/// Refuses with 1 to 15, and with 17.
+pub fn picture_size(
+    description: &[u8],
+    placement: &Placement,
+    count: &mut u64,
+) -> Result<(), Refusal> {
+    answered(ffi::picture_size(description, &placement.0, count))
 }
 
 /// Counts the candidates, those that break rule 16, those that break rule 17 and not 16, those that

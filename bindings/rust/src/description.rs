@@ -152,6 +152,37 @@ impl Description {
         Ok(transfers.copied().map(Transfer::from).collect())
     }
 
+    /// The picture of a secure placement: a text that Graphviz draws, with a line for each edge and
+    /// then one for each block without an edge.
+    ///
+    /// ```
+    /// use panel::Description;
+    ///
+    /// let interview = Description::read(include_bytes!("../../../examples/interview.bin"))?;
+    /// assert_eq!(
+    ///     interview.picture(&[1, 1, 0, 0, 0].into())?,
+    ///     "digraph p {
+    ///   d0_1 -> s1_1;
+    ///   s1_1 -> d2_1_e1 -> x1 -> d2_0;
+    ///   d2_0 -> s3_0;
+    ///   s3_0 -> d4_0;
+    /// }
+    /// "
+    /// );
+    /// # Ok::<(), panel::Refusal>(())
+    /// ```
+    ///
+    /// # Errors
+    ///
+    /// Refuses what [`judge`](Self::judge) refuses.
+    pub fn picture(&self, placement: &Placement) -> Result<String, Refusal> {
+        let (mut buffer, mut count) = ([0; calls::PICTURE], 0);
+        calls::picture(&self.bytes, placement, &mut buffer, &mut count)?;
+        // The text is ASCII, so that each byte is a character.
+        let text = buffer.iter().take(count as usize);
+        Ok(text.copied().map(char::from).collect())
+    }
+
     /// The first row that is strictly later than the cursor, or `None` where there is none.
     ///
     /// Each draw walks over all candidates; to have every row, [`list`](Self::list) walks once.

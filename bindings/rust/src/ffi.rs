@@ -23,6 +23,20 @@ mod library {
             room: usize,
             count: *mut u64,
         ) -> Status;
+        pub fn panel_picture(
+            description: *const u8,
+            length: usize,
+            placement: *const u8,
+            buffer: *mut u8,
+            room: usize,
+            count: *mut u64,
+        ) -> Status;
+        pub fn panel_picture_size(
+            description: *const u8,
+            length: usize,
+            placement: *const u8,
+            count: *mut u64,
+        ) -> Status;
         pub fn panel_census(description: *const u8, length: usize, figures: *mut u64) -> Status;
         pub fn panel_draw(
             description: *const u8,
@@ -68,6 +82,26 @@ pub fn transfers(
     // SAFETY: `bytes` is valid for `length` reads, `placement` for sixteen; `lent` is valid for
     // `room` bytes of writes and `count` for one word, and the two do not overlap.
     unsafe { library::panel_transfers(bytes, length, placement.as_ptr(), lent, room, count) }
+}
+
+pub fn picture(
+    description: &[u8],
+    placement: &[u8; 16],
+    buffer: &mut [u8],
+    count: &mut u64,
+) -> Status {
+    let (bytes, length) = (description.as_ptr(), description.len());
+    let (lent, room) = (buffer.as_mut_ptr(), buffer.len());
+    // SAFETY: `bytes` is valid for `length` reads, `placement` for sixteen; `lent` is valid for
+    // `room` bytes of writes and `count` for one word, and the two do not overlap.
+    unsafe { library::panel_picture(bytes, length, placement.as_ptr(), lent, room, count) }
+}
+
+pub fn picture_size(description: &[u8], placement: &[u8; 16], count: &mut u64) -> Status {
+    let (bytes, length) = (description.as_ptr(), description.len());
+    // SAFETY: `bytes` is valid for `length` reads, `placement` for sixteen, and `count` for the one
+    // word that is written.
+    unsafe { library::panel_picture_size(bytes, length, placement.as_ptr(), count) }
 }
 
 pub fn census(description: &[u8], figures: &mut [u64; 6]) -> Status {

@@ -103,8 +103,8 @@ fn words_on_placement(number: u8) -> [&'static str; 2] {
         ],
         _ => [
             "the lent memory is too short; lend at least ",
-            " bytes for transfers, or as many words of rows and two fifths of that of scratch for \
-             a list",
+            " bytes for transfers or a picture, or as many words of rows and two fifths of that of \
+             scratch for a list",
         ],
     }
 }
@@ -189,8 +189,8 @@ mod tests {
         );
         assert_eq!(
             sentence(16, 4),
-            "refused 16 4: the lent memory is too short; lend at least 4 bytes for transfers, or \
-             as many words of rows and two fifths of that of scratch for a list"
+            "refused 16 4: the lent memory is too short; lend at least 4 bytes for transfers or a \
+             picture, or as many words of rows and two fifths of that of scratch for a list"
         );
         assert_eq!(
             sentence(17, 3),

@@ -117,7 +117,7 @@ impl Row {
         self.cpu
     }
 
-    /// The placement, to judge it or to ask for its transfers.
+    /// The placement, to judge it or to ask for its transfers or its picture.
     #[must_use]
     pub fn placement(&self) -> &Placement {
         &self.placement

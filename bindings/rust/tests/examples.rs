@@ -8,6 +8,7 @@ const APART: &[u8] = include_bytes!("../../../examples/apart.bin");
 
 const CLOUD: [u8; 10] = [1, 0, 0, 0, 0, 0, 0, 0, 0, 0];
 const DATUM: [u8; 6] = [2, 0, 0, 0, 0, 0];
+const SERVICE: [u8; 7] = [3, 0, 0, 0, 0, 0, 0];
 
 fn accepted(bytes: &[u8]) -> Description {
     Description::read(bytes).expect("the description is accepted")
@@ -227,6 +228,154 @@ fn transfers_are_listed_in_edge_order() {
     assert_eq!(transfers([1, 1, 1, 0, 0].into()), Ok(vec![moved(2)]));
     let refused = transfers([1, 0, 0, 0, 0].into());
     assert_eq!(refused.unwrap_err().number, 14);
+}
+
+#[test]
+fn the_examples_are_pictured_as_stored() {
+    let pictured = |bytes, placement: Placement| accepted(bytes).picture(&placement);
+    let stored = include_str!("../../../examples/interview.dot");
+    assert_eq!(
+        pictured(INTERVIEW, [1, 1, 0, 0, 0].into()).as_deref(),
+        Ok(stored)
+    );
+    let stored = include_str!("../../../examples/second.dot");
+    let cheapest = [1, 1, 1, 1, 1, 1, 0, 0, 1, 1].into();
+    assert_eq!(pictured(SECOND, cheapest).as_deref(), Ok(stored));
+    let stored = include_str!("../../../examples/apart.dot");
+    assert_eq!(
+        pictured(APART, [1, 1, 0, 0, 0].into()).as_deref(),
+        Ok(stored)
+    );
+}
+
+#[test]
+fn pictures_are_refused_as_judged() {
+    let refused = |bytes, placement: Placement| {
+        let judged = accepted(bytes).judge(&placement).unwrap_err();
+        assert_eq!(accepted(bytes).picture(&placement), Err(judged));
+        // The room is looked at last.
+        let answer = calls::picture(bytes, &placement, &mut [], &mut 0);
+        assert_eq!(answer, Err(judged));
+        let mut count = 7;
+        let answer = calls::picture_size(bytes, &placement, &mut count);
+        assert_eq!((answer, count), (Err(judged), 7));
+        (judged.number, judged.place)
+    };
+    assert_eq!(refused(INTERVIEW, [1, 1, 0, 0, 2].into()), (13, 4));
+    assert_eq!(refused(INTERVIEW, [1, 0, 0, 0, 0].into()), (14, 0));
+    let first_lowered = [0, 1, 1, 1, 1, 1, 0, 0, 1, 1];
+    assert_eq!(refused(SECOND, first_lowered.into()), (15, 0));
+    assert_eq!(refused(APART, [1, 1, 1, 1, 1].into()), (17, 0));
+    let cut = Refusal {
+        number: 1,
+        place: 64,
+    };
+    let placement = [1, 1, 0, 0, 0].into();
+    let answer = calls::picture(&INTERVIEW[..64], &placement, &mut [], &mut 0);
+    assert_eq!(answer, Err(cut));
+    let answer = calls::picture_size(&INTERVIEW[..64], &placement, &mut 0);
+    assert_eq!(answer, Err(cut));
+}
+
+#[test]
+fn a_picture_takes_the_bytes_of_its_text() {
+    let stored = include_bytes!("../../../examples/interview.dot");
+    let pictured = |room: usize| {
+        let (mut buffer, mut count) = (vec![7; room], 9);
+        let placement = [1, 1, 0, 0, 0].into();
+        let answer = calls::picture(INTERVIEW, &placement, &mut buffer, &mut count);
+        (answer, count, buffer)
+    };
+    let short = Err(Refusal {
+        number: 16,
+        place: 95,
+    });
+    assert_eq!(pictured(95), (Ok(()), 95, stored.to_vec()));
+    assert_eq!(pictured(98), (Ok(()), 95, [&stored[..], &[7; 3]].concat()));
+    assert_eq!(pictured(94), (short, 9, vec![7; 94]));
+    assert_eq!(pictured(0), (short, 9, vec![]));
+}
+
+#[test]
+fn the_size_is_what_is_written_for_every_row() {
+    for bytes in [INTERVIEW, SECOND, APART] {
+        let description = accepted(bytes);
+        for row in description.list() {
+            let (mut buffer, mut written, mut size) = ([0; calls::PICTURE], 0, 0);
+            let pictured = calls::picture(bytes, row.placement(), &mut buffer, &mut written);
+            let measured = calls::picture_size(bytes, row.placement(), &mut size);
+            assert_eq!((pictured, measured), (Ok(()), Ok(())));
+            assert_eq!(written, size);
+            // No byte of a text is zero, and those behind it were not written.
+            let (text, rest) = buffer.split_at(size as usize);
+            assert!(!text.contains(&0) && rest.iter().all(|&byte| byte == 0));
+            let shown = description.picture(row.placement());
+            assert_eq!(shown.map(String::into_bytes).as_deref(), Ok(text));
+        }
+    }
+}
+
+#[test]
+fn each_kind_of_edge_has_its_line() {
+    let description = accepted(INTERVIEW);
+    let lines = |placement: Placement| {
+        let picture = description.picture(&placement).expect("it is secure");
+        let lines = picture.strip_prefix("digraph p {\n");
+        let lines = lines.and_then(|lines| lines.strip_suffix("}\n"));
+        lines.expect("it begins and ends so").to_string()
+    };
+    assert_eq!(
+        lines([1, 1, 1, 1, 1].into()),
+        "  d0_1 -> s1_1;\n  s1_1 -> d2_1;\n  d2_1 -> s3_1;\n  s3_1 -> d4_1;\n"
+    );
+    assert_eq!(
+        lines([1, 1, 1, 0, 1].into()),
+        "  d0_1 -> s1_1;\n  s1_1 -> d2_1;\n  d2_1 -> x2 -> d2_0_e2 -> s3_0;\n  \
+         s3_0 -> d4_0_e3 -> x3 -> d4_1;\n"
+    );
+}
+
+/// A picture of these lines.
+fn picture(lines: &[String]) -> String {
+    format!("digraph p {{\n{}}}\n", lines.concat())
+}
+
+#[test]
+fn a_block_without_an_edge_has_its_own_line() {
+    let description = accepted(&data_alone(2, 11));
+    let placement = Placement::from([0, 1, 0, 0, 0, 0, 0, 0, 0, 0, 1]);
+    let line = |(block, cloud)| format!("  d{block}_{cloud};\n");
+    let blocks = placement.0.iter().take(11).enumerate();
+    let lines: Vec<_> = blocks.map(line).collect();
+    assert_eq!(lines[10], "  d10_1;\n");
+    assert_eq!(description.picture(&placement), Ok(picture(&lines)));
+
+    // Of two services and two data, the second of each is alone.
+    let blocks = [&SERVICE[..], &DATUM, &SERVICE, &DATUM].concat();
+    let bytes = [&CLOUD.repeat(2)[..], &blocks, &[4, 0, 1], &[0]].concat();
+    let shown = accepted(&bytes).picture(&[1, 1, 0, 1].into());
+    let lines = "  d1_1 -> s0_1;\n  s2_0;\n  d3_1;\n".to_string();
+    assert_eq!(shown, Ok(picture(&[lines])));
+}
+
+#[test]
+fn thirty_two_moved_reads_are_pictured() {
+    // Services 12 to 15 on cloud 1 read data 4 to 11, which are on cloud 0; data 0 to 3 are alone.
+    let clouds = CLOUD.repeat(2);
+    let blocks = [DATUM.repeat(12), SERVICE.repeat(4)].concat();
+    let reads = (12..16).flat_map(|service| (4..12).map(move |datum| [4, service, datum]));
+    let reads: Vec<[u8; 3]> = reads.collect();
+    let bytes = [&clouds[..], &blocks, reads.as_flattened(), &[0]].concat();
+    let moved = |(edge, [_, service, datum]): (usize, &[u8; 3])| {
+        format!("  d{datum}_0 -> x{edge} -> d{datum}_1_e{edge} -> s{service}_1;\n")
+    };
+    let lines = reads.iter().enumerate().map(moved);
+    let lines: Vec<_> = lines
+        .chain((0..4).map(|datum| format!("  d{datum}_0;\n")))
+        .collect();
+    assert_eq!(lines[31], "  d11_0 -> x31 -> d11_1_e31 -> s15_1;\n");
+    let placement = Placement([0, 0, 0, 0, 0, 0, 0, 0, 0, 0, 0, 0, 1, 1, 1, 1]);
+    assert_eq!(accepted(&bytes).picture(&placement), Ok(picture(&lines)));
 }
 
 #[test]

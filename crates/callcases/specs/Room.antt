@@ -9,9 +9,13 @@ use Rattle.callcases.specs.declared.cases.Reply.the-variants.{Line, Bad}
 abbrev pub size : ℕ
 size = 65536
 
+-- the most bytes of a lent buffer
+abbrev pub mostLent : ℕ
+mostLent = 2048
+
 -- the longest line takes less
 abbrev pub line : ℕ
-line = 4096
+line = 8192
 
 -- the words and numbers of an answer take less
 abbrev pub words : ℕ

@@ -6,8 +6,11 @@ ghost use lib.ListN.{length, take};
 // More bytes than the longest description has.
 pub const SIZE: usize = 65536;
 
-// More bytes than the longest line has: that of a lent buffer of 1,024 bytes.
-pub const LINE: usize = 4096;
+// The most bytes of a lent buffer.
+pub const MOST_LENT: usize = 2048;
+
+// More bytes than the longest line has, that of a lent buffer: two digits for each of its bytes.
+pub const LINE: usize = 8192;
 
 pub type Buffer = [u8; SIZE];
 

@@ -2,14 +2,17 @@
 ghost use Prim.Native.Nat.{_+_, _≤_};
 ghost use mathlib.Core.Path.{_≡_};
 ghost use lib.ListN.{length};
-ghost use Rattle.callcases.specs.Room.{size, line, Within};
+ghost use Rattle.callcases.specs.Room.{size, line, words, mostLent, Within};
 use crate::buffer::Buffer;
+use crate::buffer::MOST_LENT;
 use crate::input::be16;
 use crate::input::be64;
 use crate::input::read_all;
 use crate::lines::put_acceptance;
 use crate::lines::put_counted;
 use crate::lines::put_drawn;
+use crate::lines::put_pictured;
+use crate::lines::put_size;
 use crate::lines::put_transferred;
 use crate::lines::put_verdict;
 use crate::output::put;
@@ -32,7 +35,9 @@ pub fn answer(letter: u8, description: &[u8], out: &mut Buffer, at: usize) -> Re
         b'J' => answer_judge(description, out, at),
         b'C' => answer_census(description, out, at),
         b'D' => answer_draw(description, out, at),
-        b'T' => answer_transfers(description, out, at),
+        b'T' => answer_lending(description, out, at, Lending::Transfers),
+        b'P' => answer_lending(description, out, at, Lending::Picture),
+        b'B' => answer_size(description, out, at),
         _ => Reply::Bad,
     }
 }
@@ -102,7 +107,13 @@ fn number_of(b: [u8; 8]) -> u64 {
     )
 }
 
-fn answer_transfers(description: &[u8], out: &mut Buffer, at: usize) -> Reply
+// The two calls that write to a lent buffer.
+enum Lending {
+    Transfers,
+    Picture,
+}
+
+fn answer_lending(description: &[u8], out: &mut Buffer, at: usize, call: Lending) -> Reply
     requires { ⌜ at + line ≤ size ⌝ }
     ensures { λ r. ⌜ Within r ⌝ }
 {
@@ -115,32 +126,33 @@ fn answer_transfers(description: &[u8], out: &mut Buffer, at: usize) -> Reply
         return Reply::Bad;
     }
     let count = be16(room[0], room[1]);
-    if count > 1024 {
+    if count > MOST_LENT {
         return Reply::Bad;
     }
-    Reply::Line(put_transfers(out, at, description, placement, count))
+    Reply::Line(put_lending(out, at, description, placement, call, count))
 }
 
 // A buffer to lend, full of a byte by which what the call leaves alone shows.
-fn untouched() -> [u8; 1024]
-    ensures { λ r. ⌜ 1024 ≡ length r ⌝ }
+fn untouched() -> [u8; MOST_LENT]
+    ensures { λ r. ⌜ mostLent ≡ length r ⌝ }
 {
-    [0xa5; 1024]
+    [0xa5; MOST_LENT]
 }
 
-fn put_transfers(
+fn put_lending(
     out: &mut Buffer,
     at: usize,
     description: &[u8],
     placement: [u8; 16],
+    call: Lending,
     count: usize,
 ) -> usize
     requires { ⌜ at + line ≤ size ⌝ }
-    requires { ⌜ count ≤ 1024 ⌝ }
+    requires { ⌜ count ≤ mostLent ⌝ }
     ensures { λ r. ⌜ r ≤ size ⌝ }
 {
     let mut lent = untouched();
-    put_lent(out, at, description, placement, &mut lent[..count])
+    put_lent(out, at, description, placement, call, &mut lent[..count])
 }
 
 // The whole line: what the call answers, then the lent buffer as the call left it.
@@ -149,13 +161,47 @@ fn put_lent(
     at: usize,
     description: &[u8],
     placement: [u8; 16],
+    call: Lending,
     lent: &mut [u8],
 ) -> usize
     requires { ⌜ at + line ≤ size ⌝ }
-    requires { ⌜ length (now lent) ≤ 1024 ⌝ }
+    requires { ⌜ length (now lent) ≤ mostLent ⌝ }
     ensures { λ r. ⌜ r ≤ size ⌝ }
 {
-    let at = put_transferred(out, at, judging::transfers(description, placement, lent));
+    let at = put_answer(out, at, description, placement, call, lent);
     let at = put_hex(out, at, lent);
     put(out, at, b"\n")
+}
+
+fn put_answer(
+    out: &mut Buffer,
+    at: usize,
+    description: &[u8],
+    placement: [u8; 16],
+    call: Lending,
+    lent: &mut [u8],
+) -> usize
+    requires { ⌜ at + words ≤ size ⌝ }
+    ensures { λ r. ⌜ r ≤ at + words ⌝ }
+{
+    match call {
+        Lending::Transfers => put_transferred(
+            out,
+            at,
+            judging::transfers(description, placement, lent),
+        ),
+        Lending::Picture => put_pictured(out, at, picture::picture(description, placement, lent)),
+    }
+}
+
+fn answer_size(description: &[u8], out: &mut Buffer, at: usize) -> Reply
+    requires { ⌜ at + line ≤ size ⌝ }
+    ensures { λ r. ⌜ Within r ⌝ }
+{
+    let mut placement = [0u8; 16];
+    if !read_all(&mut placement) {
+        return Reply::Bad;
+    }
+    let at = put_size(out, at, picture::picture_size(description, placement));
+    Reply::Line(put(out, at, b"\n"))
 }

@@ -12,6 +12,7 @@ use judging::answers::Acceptance;
 use lister::Answer;
 use lister::Counted;
 use lister::Drawn;
+use picture::Pictured;
 use security::answers::Verdict;
 use survey::Figures;
 use survey::Row;
@@ -73,6 +74,32 @@ pub fn put_transferred(out: &mut Buffer, at: usize, t: Transferred) -> usize
             put_number(out, at, n as u64)
         }
         Transferred::Refused(r) => put_refusal(out, at, r),
+    }
+}
+
+pub fn put_pictured(out: &mut Buffer, at: usize, p: Pictured) -> usize
+    requires { ⌜ at + words ≤ size ⌝ }
+    ensures { λ r. ⌜ r ≤ at + words ⌝ }
+{
+    match p {
+        Pictured::Bytes(n) => {
+            let at = put(out, at, b"picture");
+            put_number(out, at, n as u64)
+        }
+        Pictured::Refused(r) => put_refusal(out, at, r),
+    }
+}
+
+pub fn put_size(out: &mut Buffer, at: usize, p: Pictured) -> usize
+    requires { ⌜ at + words ≤ size ⌝ }
+    ensures { λ r. ⌜ r ≤ at + words ⌝ }
+{
+    match p {
+        Pictured::Bytes(n) => {
+            let at = put(out, at, b"bytes");
+            put_number(out, at, n as u64)
+        }
+        Pictured::Refused(r) => put_refusal(out, at, r),
     }
 }
 

@@ -4,6 +4,7 @@ pub mod Commands
 pub mod Fields
 pub mod Front
 pub mod Limits
+pub mod Named
 pub mod Outcomes
 pub mod Parts
 pub mod Puts

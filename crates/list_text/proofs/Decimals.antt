@@ -93,7 +93,7 @@ decimals = by-tenths (λ n. Decimal n (decimal n)) alone longer
         }
 
 -- a number below a power of ten has at most as many digits
-length-bound : (k n : ℕ) → n < 10 ^ suc k → length (decimal n) ≤ suc k
+pub length-bound : (k n : ℕ) → n < 10 ^ suc k → length (decimal n) ≤ suc k
 length-bound zero n h = rw (small n h) (lit≤ tt)
 length-bound (suc k) n h = go (decLt n 10) (λ l. length-bound k (n / 10) (div-lt-iff-lt-mul (omega arith) .1 (rw pow-suc at h)))
   where

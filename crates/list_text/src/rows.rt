@@ -58,7 +58,7 @@ fn put_clouds(place: u64, blocks: usize, buffer: &mut [u8], at: usize)
 
 // Each of these puts a part of a line, or all of it, from offset `at` on, and answers the offset behind it.
 
-fn put_number(n: u64, buffer: &mut [u8], at: usize) -> usize
+pub fn put_number(n: u64, buffer: &mut [u8], at: usize) -> usize
     requires { ⌜ at + length (decimal n) ≤ length (now buffer) ⌝ }
     ensures { λ r. ⌜ r ≡ at + length (decimal n) ⌝ }
     ensures { λ _. ⌜ now (buffer .exit) ≡ written (decimal n) (now (buffer .entry)) at ⌝ }

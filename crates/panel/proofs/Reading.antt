@@ -8,6 +8,9 @@ use Rattle.sequences.proofs.Results.{within-more}
 use Rattle.description.specs.Bytes.{Bytes, decidingBytes}
 use Rattle.judging.specs.Calls.{readCall, judgeCall, transfersCall}
 use Rattle.judging.proofs.Refusals.{readCall-within, judgeCall-within, transfersCall-within}
+use Rattle.picture.specs.Calls.{pictureCall, sizeCall}
+use Rattle.picture.specs.Picture.{pictureBytes}
+use Rattle.picture.proofs.Refusals.{pictureCall-within, sizeCall-within}
 use Rattle.lister.specs.Calls.{censusCall, drawCall}
 use Rattle.lister.proofs.Refusals.{censusCall-within, drawCall-within}
 use Rattle.whole_list.specs.WholeList.{mostWords, listCall}
@@ -28,6 +31,8 @@ nothing-lost s bytes = record {
   read = sooner 12 decidingBytes (omega arith) (omega arith) (readCall s) (readCall-within s);
   judge = λ p. sooner 17 decidingBytes (omega arith) (omega arith) (judgeCall s p) (judgeCall-within s p);
   transfers = λ p room. sooner 17 decidingBytes (omega arith) (omega arith) (transfersCall s p room) (transfersCall-within s p room);
+  picture = λ p room. sooner 17 pictureBytes (omega arith) (omega arith) (pictureCall s p room) (pictureCall-within s p room);
+  size = λ p. sooner 17 pictureBytes (omega arith) (omega arith) (sizeCall s p) (sizeCall-within s p);
   census = sooner 12 decidingBytes (omega arith) (omega arith) (censusCall s) (censusCall-within s);
   draw = λ c. sooner 12 decidingBytes (omega arith) (omega arith) (drawCall s c) (drawCall-within s c);
   list = λ room. sooner 16 mostWords (omega arith) (omega arith) (listCall s room) (listCall-within s room bytes);

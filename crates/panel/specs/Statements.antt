@@ -4,6 +4,7 @@ use mathlib.Core.Path.{_≡_}
 use mathlib.Core.List.{List}
 use Rattle.sequences.specs.Results.{Result, ok, refused}
 use Rattle.judging.specs.Calls.{readCall, judgeCall, transfersCall}
+use Rattle.picture.specs.Calls.{pictureCall, sizeCall}
 use Rattle.survey.specs.declared.Cursor.{Cursor}
 use Rattle.lister.specs.Calls.{censusCall, drawCall}
 use Rattle.whole_list.specs.WholeList.{listCall}
@@ -20,6 +21,8 @@ pub record NothingLost (s : List ℕ) : Type 0 where
   pub read : Readable (readCall s)
   pub judge : (p : List ℕ) → Readable (judgeCall s p)
   pub transfers : (p : List ℕ) (room : ℕ) → Readable (transfersCall s p room)
+  pub picture : (p : List ℕ) (room : ℕ) → Readable (pictureCall s p room)
+  pub size : (p : List ℕ) → Readable (sizeCall s p)
   pub census : Readable (censusCall s)
   pub draw : (c : Cursor) → Readable (drawCall s c)
   pub list : (room : ℕ) → Readable (listCall s room)

@@ -22,6 +22,10 @@ one n = n ∷ []
 abbrev pub transferCount : List Transfer → List ℕ
 transferCount ts = one (length ts)
 
+-- Picture: how many bytes its text has
+abbrev pub byteCount : List ℕ → List ℕ
+byteCount text = one (length text)
+
 -- Census: candidates, those that break rule 16, those that break rule 17 alone, those that break a pair alone, secure ones, options
 abbrev pub figures : Census → List ℕ
 figures c = c .candidates ∷ c .breaking16 ∷ c .breaking17only ∷ c .apartonly ∷ c .secure ∷ c .options ∷ []

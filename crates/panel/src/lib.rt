@@ -1,4 +1,4 @@
-// The six calls for C, declared in `include/panel.h`. Each answers a status, 0 or a refusal's number and place in one word, and puts the
+// The eight calls for C, declared in `include/panel.h`. Each answers a status, 0 or a refusal's number and place in one word, and puts the
 // values of its answer into lent arrays, which a refusal leaves as they were.
 ghost use mathlib.Core.Path.{_≡_};
 ghost use Prim.Native.Nat.{_-_, _^_, min};
@@ -8,17 +8,20 @@ ghost use Rattle.security.specs.Answers.{judgeAnswer};
 ghost use Rattle.costs.specs.Answers.{transfersAnswer};
 ghost use Rattle.judging.specs.Calls.{readCall, judgeCall, transfersCall};
 ghost use Rattle.costs.specs.Transfers.{bufferAfter};
+ghost use Rattle.picture.specs.Answers.{pictureAnswer};
+ghost use Rattle.picture.specs.Calls.{pictureCall, sizeCall, bufferAfter as pictureAfter};
 ghost use Rattle.lister.specs.Answers.{censusAnswer, drawAnswer};
 ghost use Rattle.lister.specs.Calls.{censusCall, drawCall};
 ghost use Rattle.whole_list.specs.WholeList.{capacity, listAnswer, listCall, rowsAfter, scratchAfter};
 ghost use Rattle.panel.specs.Statuses.{highestPlace, refusalStatus, status, valuesAfter};
-ghost use Rattle.panel.specs.Values.{counts as countValues, transferCount, figures as figureValues, rowOrNone, rowBytes, extent as extentValues, one};
+ghost use Rattle.panel.specs.Values.{counts as countValues, transferCount, byteCount, figures as figureValues, rowOrNone, rowBytes, extent as extentValues, one};
 use costs::answers::Transferred;
 use description::workflow::Refusal;
 use judging::answers::Acceptance;
 use lister::Answer;
 use lister::Counted;
 use lister::Drawn;
+use picture::Pictured;
 use security::answers::Verdict;
 use survey::Cursor;
 use whole_list::Listed;
@@ -79,6 +82,19 @@ fn put_count(answer: Transferred, count: &mut [u64; 1]) -> u64
             0
         }
         Transferred::Refused(r) => refusal_status(r),
+    }
+}
+
+fn put_size(answer: Pictured, count: &mut [u64; 1]) -> u64
+    ensures { λ r. ⌜ r ≡ status (pictureAnswer answer) ⌝ }
+    ensures { λ _. ⌜ now (count .exit) ≡ valuesAfter one (pictureAnswer answer) (now (count .entry)) ⌝ }
+{
+    match answer {
+        Pictured::Bytes(bytes) => {
+            *count = [bytes as u64];
+            0
+        }
+        Pictured::Refused(r) => refusal_status(r),
     }
 }
 
@@ -174,6 +190,38 @@ pub extern "C" fn panel_transfers(
     let bytes = *placement;
     let answer = judging::transfers(description, bytes, buffer);
     put_count(answer, count)
+}
+
+// Picture: its text at the front of the buffer, and how many bytes that has.
+#[no_mangle]
+pub extern "C" fn panel_picture(
+    description: &[u8],
+    placement: &[u8; 16],
+    buffer: &mut [u8],
+    count: &mut [u64; 1],
+) -> u64
+    ensures { λ r. ⌜ r ≡ status (pictureCall (now (description .entry)) (now (placement .entry)) (length (now (buffer .entry)))) ⌝ }
+    ensures { λ _. ⌜ now (buffer .exit) ≡ pictureAfter (pictureCall (now (description .entry)) (now (placement .entry)) (length (now (buffer .entry)))) (now (buffer .entry)) ⌝ }
+    ensures { λ _. ⌜ now (count .exit) ≡ valuesAfter byteCount (pictureCall (now (description .entry)) (now (placement .entry)) (length (now (buffer .entry)))) (now (count .entry)) ⌝ }
+{
+    let bytes = *placement;
+    let answer = picture::picture(description, bytes, buffer);
+    put_size(answer, count)
+}
+
+// Picture size: the same number, and nothing is written.
+#[no_mangle]
+pub extern "C" fn panel_picture_size(
+    description: &[u8],
+    placement: &[u8; 16],
+    count: &mut [u64; 1],
+) -> u64
+    ensures { λ r. ⌜ r ≡ status (sizeCall (now (description .entry)) (now (placement .entry))) ⌝ }
+    ensures { λ _. ⌜ now (count .exit) ≡ valuesAfter one (sizeCall (now (description .entry)) (now (placement .entry))) (now (count .entry)) ⌝ }
+{
+    let bytes = *placement;
+    let answer = picture::picture_size(description, bytes);
+    put_size(answer, count)
 }
 
 // Census: the six figures.

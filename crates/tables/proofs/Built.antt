@@ -35,7 +35,7 @@ use Rattle.tables.proofs.Filling.{getD-table, getD-tableTo, table-all}
 use Rattle.tables.proofs.Groups.{keep-all, same-on, from-split, map-append, joined-grows, joined-count, regroup}
 use Rattle.tables.proofs.Indexing.{map-below, map-constant, index-map, getD-padded, sequences-padded}
 use Rattle.tables.proofs.Places.{term-in, end-in, start-in, on-both}
-use Rattle.tables.proofs.Named.{service-block, datum-block}
+use Rattle.description.proofs.Named.{service-block, datum-block}
 use Rattle.tables.proofs.Ordering.{order-before, order-at}
 use Rattle.tables.proofs.Paired.{paired}
 

@@ -7,7 +7,6 @@ pub mod Filling
 pub mod Groups
 pub mod Indexing
 pub mod Laying
-pub mod Named
 pub mod Noting
 pub mod Ordering
 pub mod Paired

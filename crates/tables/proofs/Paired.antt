@@ -22,7 +22,7 @@ use Rattle.tables.specs.Building.{isOf, onlyOf, only, ofPair, pairAt, pa
 use Rattle.tables.proofs.Conflicting.{list-few, count-is, conflict-small}
 use Rattle.tables.proofs.Filling.{getD-tableTo}
 use Rattle.tables.proofs.Places.{pair-in}
-use Rattle.tables.proofs.Named.{service-block}
+use Rattle.description.proofs.Named.{service-block}
 
 -- P holds of each element
 abbrev Every : {A : Type 0} → (A → Type 0) → List A → Type 0

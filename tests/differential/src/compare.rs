@@ -11,6 +11,7 @@ use reference::rules::{Placement, Priced, Row};
 use crate::generate::Kind;
 use crate::lent::{Checked, Lent};
 use crate::operands::{cursor, placement, room, rooms};
+use crate::picture::{kind_of, room_seen, seen_in};
 use crate::tally::{Call, Tally};
 use crate::text::has_half;
 use crate::wrapped;
@@ -31,6 +32,9 @@ const WRAPPED: usize = 20;
 /// What always holds the transfers, and the rows with the scratch to sort them.
 const ENOUGH_BYTES: usize = 128;
 const ENOUGH_WORDS: [usize; 2] = [327_680, 131_072];
+
+/// The length around which buffers are lent if there is no picture.
+const SOME_PICTURE: usize = 40;
 
 /// A description, and what the reference makes of it.
 pub struct Input<'a> {
@@ -69,6 +73,7 @@ impl<'a> Input<'a> {
         for _ in 0..times {
             self.judge()?;
             self.transfers()?;
+            self.pictures()?;
         }
         if walks {
             self.census()?;
@@ -192,6 +197,54 @@ impl<'a> Input<'a> {
             reference,
         };
         self.settle(&case, &[&buffer, &count])
+    }
+
+    /// The picture of one placement, and its size.
+    fn pictures(&mut self) -> Agreed {
+        let placement = self.placement();
+        self.picture(placement)?;
+        self.picture_size(placement)
+    }
+
+    fn picture(&mut self, placement: Placement) -> Agreed {
+        let size = self.described().and_then(|d| d.picture_size(&placement));
+        let room = room(self.random, size.unwrap_or(SOME_PICTURE), engine::PICTURE);
+        let mut buffer = Lent::<u8>::new(self.random, room);
+        let mut count = Lent::<u64>::new(self.random, 1);
+        let mut shown = size.map_or(Vec::new(), |needed| room_seen(room, needed));
+        let reference = self.described().and_then(|described| {
+            let text = described.picture(&placement, room)?;
+            buffer.expect(text.as_bytes());
+            count.expect(&[text.len() as u64]);
+            shown.extend(seen_in(&text));
+            Ok(kind_of(&text))
+        });
+        self.show(&shown);
+        let (place, [lent_count]) = (Placed(placement), count.lend_array());
+        let library = engine::picture(self.text.get(), &place, buffer.lend(), lent_count);
+        let case = Case {
+            call: Call::Picture,
+            operands: &(placement, room),
+            library,
+            reference,
+        };
+        self.settle(&case, &[&buffer, &count])
+    }
+
+    fn picture_size(&mut self, placement: Placement) -> Agreed {
+        let mut count = Lent::<u64>::new(self.random, 1);
+        let reference = self.described().and_then(|described| {
+            count.expect(&[described.picture_size(&placement)? as u64]);
+            Ok("bytes")
+        });
+        let [lent_count] = count.lend_array();
+        let case = Case {
+            call: Call::PictureSize,
+            operands: &placement,
+            library: engine::picture_size(self.text.get(), &Placed(placement), lent_count),
+            reference,
+        };
+        self.settle(&case, &[&count])
     }
 
     fn census(&mut self) -> Agreed {

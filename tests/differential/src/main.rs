@@ -13,6 +13,7 @@ mod compare;
 mod generate;
 mod lent;
 mod operands;
+mod picture;
 mod tally;
 mod text;
 mod wrapped;

@@ -11,16 +11,20 @@ pub enum Call {
     Read,
     Judge,
     Transfers,
+    Picture,
+    PictureSize,
     Census,
     Draw,
     List,
 }
 
 impl Call {
-    const ALL: [Call; 6] = [
+    const ALL: [Call; 8] = [
         Call::Read,
         Call::Judge,
         Call::Transfers,
+        Call::Picture,
+        Call::PictureSize,
         Call::Census,
         Call::Draw,
         Call::List,
@@ -30,8 +34,8 @@ impl Call {
     fn numbers(self) -> impl Iterator<Item = u8> {
         let (range, more): (RangeInclusive<u8>, _) = match self {
             Call::Read | Call::Census | Call::Draw => (1..=12, None),
-            Call::Judge => (1..=15, Some(17)),
-            Call::Transfers => (1..=17, None),
+            Call::Judge | Call::PictureSize => (1..=15, Some(17)),
+            Call::Transfers | Call::Picture => (1..=17, None),
             Call::List => (1..=12, Some(16)),
         };
         range.chain(more)

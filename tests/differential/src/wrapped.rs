@@ -31,6 +31,7 @@ fn first_difference(
     let first = &rows[..rows.len().min(DRAWN)];
     let drawn: Vec<panel::Row> = wrapped.rows().take(DRAWN).collect();
     let same_moves = |row| same_transfers(wrapped, described, row);
+    let same_text = |row| same_picture(wrapped, described, row);
     let same_length = |row: &panel::Row| row.clouds().len() == described.blocks.len();
     let parts = [
         ("counts", same_counts(wrapped, described)),
@@ -42,6 +43,7 @@ fn first_difference(
         ("rows", same_rows(&drawn, first)),
         ("clouds", drawn.iter().all(same_length)),
         ("transfers", first.iter().all(same_moves)),
+        ("pictures", first.iter().all(same_text)),
     ];
     let (name, _) = parts.into_iter().find(|(_, same)| !same)?;
     Some(name)
@@ -80,4 +82,9 @@ fn same_transfers(wrapped: &panel::Description, described: &Description, row: &R
     let due = described.transfers(&row.placement, usize::MAX);
     let due = due.map(|bytes| bytes.into_iter().map(panel::Transfer::from).collect());
     found.ok() == due.ok()
+}
+
+fn same_picture(wrapped: &panel::Description, described: &Description, row: &Row) -> bool {
+    let found = wrapped.picture(&row.placement.into());
+    found.ok() == described.picture(&row.placement, usize::MAX).ok()
 }

@@ -109,7 +109,7 @@ fn transfer_at(number: u8, edge: &Edge, placement: &Placement) -> Option<Transfe
 }
 
 /// What is lent must fit; the refusal says what is needed.
-fn refuse_unless(fits: bool, needed: usize) -> Result<(), Refusal> {
+pub(crate) fn refuse_unless(fits: bool, needed: usize) -> Result<(), Refusal> {
     if fits {
         return Ok(());
     }

@@ -8,5 +8,6 @@
 pub mod calls;
 pub mod description;
 pub mod options;
+pub mod picture;
 pub mod random;
 pub mod rules;

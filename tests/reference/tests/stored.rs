@@ -18,7 +18,7 @@ const SECOND_LIST: &str = include_str!("../../../examples/second.expected");
 const APART: &[u8] = include_bytes!("../../../examples/apart.bin");
 const APART_LIST: &str = include_str!("../../../examples/apart.expected");
 
-/// The buffer of a Transfers is full of these at first.
+/// A lent buffer is full of these at first.
 const UNTOUCHED: u8 = 0xA5;
 
 /// Takes so many bytes from the front.
@@ -33,6 +33,11 @@ fn number(bytes: &[u8]) -> usize {
 
 fn placement(bytes: &[u8]) -> Placement {
     bytes.try_into().expect("sixteen bytes")
+}
+
+fn placement_and_room(operands: &[u8]) -> (Placement, usize) {
+    let (place, room) = operands.split_at(16);
+    (placement(place), number(room))
 }
 
 /// The rows of each description, which many cases share.
@@ -56,14 +61,17 @@ fn answer(letter: u8, text: &[u8], operands: &[u8], lists: &mut Lists) -> Result
             "secure".into()
         }
         b'T' => {
-            let (place, room) = operands.split_at(16);
-            let transfers = described.transfers(&placement(place), number(room))?;
-            with_buffer(
-                format!("transfers {}", transfers.len()),
-                &transfers.concat(),
-                number(room),
-            )
+            let (place, room) = placement_and_room(operands);
+            let transfers = described.transfers(&place, room)?;
+            let line = format!("transfers {}", transfers.len());
+            with_buffer(line, &transfers.concat(), room)
         }
+        b'P' => {
+            let (place, room) = placement_and_room(operands);
+            let text = described.picture(&place, room)?;
+            with_buffer(format!("picture {}", text.len()), text.as_bytes(), room)
+        }
+        b'B' => format!("bytes {}", described.picture_size(&placement(operands))?),
         b'C' => {
             let c = described.census(rows(lists, text, &described));
             let [broken_16, broken_17] = [c.breaking_16, c.breaking_17_only];
@@ -117,14 +125,14 @@ fn the_stored_cases_are_answered_alike() {
         let text = take(&mut rest, length);
         let width = match letter {
             b'R' | b'C' => 0,
-            b'J' => 16,
-            b'T' => 18,
+            b'J' | b'B' => 16,
+            b'T' | b'P' => 18,
             b'D' => 25,
             _ => panic!("letter {letter}"),
         };
         let operands = take(&mut rest, width);
         let line = answer(letter, text, operands, &mut lists).unwrap_or_else(|refusal| {
-            let room = operands.get(16..18).filter(|_| letter == b'T');
+            let room = operands.get(16..).filter(|_| matches!(letter, b'T' | b'P'));
             with_buffer(refusal.to_string(), &[], room.map_or(0, number))
         });
         assert_eq!(Some(line.as_str()), lines.next(), "{letter} {text:02x?}");

@@ -10,7 +10,7 @@ use Rattle.description.specs.Meaning.{describes}
 use Rattle.description.specs.Format.{noPair, pair}
 use Rattle.security.specs.Conflicts.{conflictBy, conflicts}
 use Rattle.security.proofs.Holding.{conflicts-are}
-use Rattle.tables.proofs.Named.{pair-blocks}
+use Rattle.description.proofs.Named.{pair-blocks}
 use Rattle.tables.proofs.conflicts.conflict.Statement.{statement}
 use Rattle.tables.proofs.conflicts.conflict.Tie as tie
 

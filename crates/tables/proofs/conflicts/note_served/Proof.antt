@@ -6,7 +6,7 @@ use lib.ListN.{length}
 use borrow.Author.Needs.{needs}
 use Rattle.description.specs.Format.{edge}
 use Rattle.description.specs.Meaning.{describes}
-use Rattle.tables.proofs.Named.{service-block, datum-block}
+use Rattle.description.proofs.Named.{service-block, datum-block}
 use Rattle.tables.proofs.Serving.{Served, served-lent, served-one, served-all}
 use Rattle.tables.proofs.conflicts.note_served.Statement.{statement}
 use Rattle.tables.proofs.conflicts.note_served.Tie as tie

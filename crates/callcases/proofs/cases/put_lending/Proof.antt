@@ -2,8 +2,8 @@
 use lib.ListN.{length-take}
 use native.Mathlib.Omega.{arith}
 use borrow.Author.Needs.{needs}
-use Rattle.callcases.proofs.cases.put_transfers.Statement.{statement}
-use Rattle.callcases.proofs.cases.put_transfers.Tie as tie
+use Rattle.callcases.proofs.cases.put_lending.Statement.{statement}
+use Rattle.callcases.proofs.cases.put_lending.Tie as tie
 
 untouched-requires : tie.Need-untouched-requires
 untouched-requires c κs = search needs
@@ -20,5 +20,5 @@ put-lent-requires c κs = simp length-take (omega arith)
 returns : tie.Need-returns
 returns c = search needs
 
-pub put-transfers-spec : {M : Type 1} → statement M
-put-transfers-spec = tie.close (tie.spec untouched-requires array-borrow-prefix-lent slice-aggregate-put-lent put-lent-requires returns)
+pub put-lending-spec : {M : Type 1} → statement M
+put-lending-spec = tie.close (tie.spec untouched-requires array-borrow-prefix-lent slice-aggregate-put-lent put-lent-requires returns)

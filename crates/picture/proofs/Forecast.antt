@@ -1,0 +1,91 @@
+-- The number forecast is the number written: both calls are about the text of one definition.
+use Prim.Native.Nat.{ℕ, _≤_}
+use mathlib.Core.Path.{_≡_, refl, sym, ap, _∙_}
+use mathlib.Core.Bool.{Bool, true, false, cond}
+use mathlib.Core.List.{List}
+use lib.ListN.{length}
+use lib.Dec.{ltb}
+use Rattle.description.specs.Format.{Description}
+use Rattle.security.specs.Soundness.{read}
+use Rattle.security.specs.Placements.{judge}
+use Rattle.security.proofs.Accepted.{read-wellFormed}
+use Rattle.security.proofs.Judging.{judge-secure}
+use Rattle.judging.specs.Calls.{judgeCall}
+use Rattle.judging.proofs.Judged.{judgeCall-is, judgeCall-secure}
+use Rattle.sequences.specs.Results.{Result, ok, refused, andThen}
+use Rattle.sequences.proofs.Results.{ok-inj, andThen-ok}
+use Rattle.picture.specs.Answers.{sizeOf}
+use Rattle.picture.specs.Calls.{judged, fitted, pictureCall, sizeCall}
+use Rattle.picture.specs.Picture.{picture, pictureBytes}
+use Rattle.picture.specs.Statements.{Forecast}
+use Rattle.picture.proofs.Bound.{picture-few}
+use Rattle.picture.proofs.Fitting.{long-enough}
+
+-- what is judged is accepted, and the placement is secure for it
+judged-secure : (s p : List ℕ) (d : Description) → judged s p ≡ ok d → (read s ≡ ok d) × (judge d p ≡ ok tt)
+unfolding judged
+judged-secure s p d e =
+    let (x, accepted, rest) = andThen-ok (read s) (λ x. andThen (judge x p) (λ secure. ok x)) d .0 e in
+    let (u, secure, same) = andThen-ok (judge x p) (λ u. ok x) d .0 rest in
+    let x-is : x ≡ d = ok-inj same in
+    (accepted ∙ ap ok x-is, rw (← x-is) secure)
+
+pub judged-few : (s p : List ℕ) (d : Description) → judged s p ≡ ok d → length (picture d p) ≤ pictureBytes
+judged-few s p d e =
+    let (accepted, secure) = judged-secure s p d e in
+    picture-few d p (read-wellFormed s d accepted) (judge-secure d p .0 secure .placed)
+
+module _ (s p : List ℕ) where
+  accepted-judged : (d : Description) → read s ≡ ok d → judge d p ≡ ok tt → judged s p ≡ ok d
+  unfolding judged
+  accepted-judged d accepted secure = rw (accepted, secure) refl
+
+  refused-judged : (number place : ℕ) → judgeCall s p ≡ refused number place → judged s p ≡ refused number place
+  unfolding judged
+  refused-judged number place e = go (read s) (sym (judgeCall-is s p) ∙ e)
+    where
+      go : (r : Result Description) → andThen r (λ d. judge d p) ≡ refused number place
+          → andThen r (λ d. andThen (judge d p) (λ secure. ok d)) ≡ refused number place
+      go (ok d) h = ap (λ (r : Result (Unit {0})). andThen r (λ (secure : Unit {0}). ok d)) h
+      go (refused n q) h = cc
+
+  told : (n : ℕ) (r : Result Description)
+      → sizeOf (andThen r (λ d. fitted n (picture d p)))
+      ≡ andThen (andThen r (λ d. ok (length (picture d p)))) (λ size. cond (ltb n size) (refused 16 size) (ok size))
+  told n (ok d) = go (ltb n (length (picture d p)))
+    where
+      go : (short : Bool) → sizeOf (cond short (refused 16 (length (picture d p))) (ok (picture d p)))
+          ≡ cond short (refused 16 (length (picture d p))) (ok (length (picture d p)))
+      go true = refl
+      go false = refl
+  told n (refused number place) = refl
+
+  written-whole : (d : Description) → judged s p ≡ ok d → (n : ℕ) → length (picture d p) ≤ n → pictureCall s p n ≡ ok (picture d p)
+  unfolding pictureCall
+  written-whole d held n room = ap (λ r. andThen r (λ x. fitted n (picture x p))) held ∙ long-enough n (picture d p) room
+
+  -- FORECAST AND WRITTEN ARE ONE NUMBER
+  pub forecast : Forecast s p
+  unfolding pictureCall sizeCall
+  forecast = record {
+    written = λ n. told n (judged s p);
+    drawn =
+        λ e.
+        (let (d, accepted, secure) = judgeCall-secure s p .0 e in
+        let held = accepted-judged d accepted (judge-secure d p .1 secure) in (
+          d,
+          accepted,
+          ap (λ r. andThen r (λ x. ok (length (picture x p)))) held,
+          written-whole d held,
+        ));
+    alike =
+        λ number place e.
+        (let held = refused-judged number place e in (
+          ap (λ r. andThen r (λ x. ok (length (picture x p)))) held,
+          λ n. ap (λ r. andThen r (λ x. fitted n (picture x p))) held,
+        ));
+    few =
+        λ size e.
+        (let (d, held, same) = andThen-ok (judged s p) (λ x. ok (length (picture x p))) size .0 e in
+        rw (← ok-inj same) (judged-few s p d held));
+  }

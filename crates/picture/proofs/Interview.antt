@@ -1,0 +1,28 @@
+-- The pictures of `specs/Interview.antt`, by computation from the bytes.
+use mathlib.Core.Path.{refl}
+use Rattle.description.specs.Format.{samePair, decode}
+use Rattle.security.specs.Soundness.{covers, breaks2, breaks3, breaks4, mayStand, choicesOf, count, sound, read}
+use Rattle.security.specs.Placements.{moves, exposes, breaks16, breaks17, copies, holds, holdsBoth, together, badPosition, judge}
+use Rattle.list_text.specs.Lines.{digits, decimal}
+use Rattle.picture.specs.Picture.{readPath, writePath, pathOf, edgeLine, hasEdge, blockLine, picture}
+use Rattle.picture.specs.Calls.{judged, pictureCall, sizeCall}
+use Rattle.picture.specs.Interview.{Interview}
+
+pub interview : Interview
+unfolding
+    samePair decode
+    read sound breaks2 breaks3 breaks4 mayStand covers choicesOf count
+    judge badPosition breaks16 breaks17 exposes moves together holdsBoth holds copies
+    digits decimal
+    readPath writePath pathOf edgeLine hasEdge blockLine picture
+    judged pictureCall sizeCall
+interview = record {
+  row11000 = refl;
+  row11100 = refl;
+  size = refl;
+  short = refl;
+  first = (refl, refl);
+  apart = (refl, refl);
+  alone = refl;
+  eleven = refl;
+}

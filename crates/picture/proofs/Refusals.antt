@@ -1,0 +1,40 @@
+-- Which numbers the two calls refuse with, and how high their places are.
+use Prim.Native.Nat.{ℕ, _≤_}
+use native.Mathlib.Omega.{arith}
+use mathlib.Core.Path.{_≡_}
+use mathlib.Core.List.{List}
+use lib.ListN.{length}
+use lib.Dec.{ltb}
+use Rattle.sequences.specs.Results.{ok, refused, andThen, RefusalWithin}
+use Rattle.sequences.proofs.Results.{within-more, within-cond, within-andThen}
+use Rattle.description.specs.Bytes.{decidingBytes}
+use Rattle.description.specs.Format.{Description}
+use Rattle.security.specs.Soundness.{read}
+use Rattle.security.specs.Placements.{judge}
+use Rattle.security.proofs.Refusals.{read-within, judged-within}
+use Rattle.picture.specs.Calls.{judged, fitted, pictureCall, sizeCall}
+use Rattle.picture.specs.Picture.{picture, pictureBytes}
+use Rattle.picture.proofs.Forecast.{judged-few}
+
+module _ (s p : List ℕ) where
+  judged-refusals : RefusalWithin 17 pictureBytes (judged s p)
+  unfolding judged
+  judged-refusals =
+      within-andThen 17 pictureBytes (read s) (λ d. andThen (judge d p) (λ secure. ok d))
+      (within-more 17 pictureBytes (omega arith) (omega arith) (read s) (read-within s))
+      (λ d e. within-andThen 17 pictureBytes (judge d p) (λ secure. ok d)
+      (within-more 17 pictureBytes (omega arith) (omega arith) (judge d p) (judged-within s d e p)) (λ secure _. tt))
+
+  pub pictureCall-within : (n : ℕ) → RefusalWithin 17 pictureBytes (pictureCall s p n)
+  unfolding pictureCall
+  pictureCall-within n = within-andThen 17 pictureBytes (judged s p) (λ d. fitted n (picture d p)) judged-refusals short
+    where
+      short : (d : Description) → judged s p ≡ ok d → RefusalWithin 17 pictureBytes (fitted n (picture d p))
+      short d e =
+          let text = picture d p in
+          within-cond 17 pictureBytes (ltb n (length text)) (refused 16 (length text)) (ok text)
+          (λ _. (omega arith, omega arith, judged-few s p d e)) (λ _. tt)
+
+  pub sizeCall-within : RefusalWithin 17 pictureBytes (sizeCall s p)
+  unfolding sizeCall
+  sizeCall-within = within-andThen 17 pictureBytes (judged s p) (λ d. ok (length (picture d p))) judged-refusals (λ d e. tt)

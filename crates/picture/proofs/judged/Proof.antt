@@ -1,0 +1,57 @@
+-- The verdict on what is accepted; a refusal is passed on.
+use mathlib.Core.Path.{_≡_, refl, sym, ap, _∙_}
+use Rattle.description.specs.Format.{Description}
+use Rattle.description.specs.Meaning.{describes}
+use Rattle.security.specs.declared.answers.Verdict.{Verdict}
+use Rattle.security.specs.declared.answers.Verdict.the-variants.{Secure, Refused}
+use Rattle.security.specs.Answers.{judgeAnswer}
+use Rattle.security.specs.Placements.{judge}
+use Rattle.security.specs.Soundness.{read}
+use Rattle.judging.proofs.Admissions.{is-accepted, is-refused}
+use Rattle.sequences.specs.Results.{ok, andThen}
+use Rattle.picture.specs.Answers.{verdictOn}
+use Rattle.picture.specs.Calls.{judged}
+use borrow.Author.Needs.{needs}
+use Rattle.picture.proofs.judged.Statement.{statement}
+use Rattle.picture.proofs.judged.Tie as tie
+
+on-verdict : (v : Verdict) (d : Description) → verdictOn v d ≡ andThen (judgeAnswer v) (λ secure. ok d)
+on-verdict Secure d = refl
+on-verdict (Refused r) d = refl
+
+accept-requires : tie.Need-accept-requires
+accept-requires c κs = search needs
+
+enum-told : tie.Need-enum-told
+enum-told c = search needs
+
+verdict-requires : tie.Need-verdict-requires
+verdict-requires c κs = search needs
+
+enum-known-admission : tie.Need-enum-known-admission
+enum-known-admission c = search needs
+
+returns : tie.Need-returns
+unfolding judged
+returns c =
+    let accept = c .before .before .before .before .accept in
+    let told = c .before .before .enum-told .given in
+    let a = c .before .before .before .before .before .before .before .args in
+    let d = describes (accept .last .1 .0) in
+    let accepted = is-accepted d (read (a .description .now)) (accept .ensures .0) (told .0 .0) (told .1) .accepted in
+    on-verdict (c .verdict .result) d ∙ ap (λ j. andThen j (λ (u : Unit {0}). ok d)) (c .verdict .ensures) ∙
+    sym (ap (λ r. andThen r (λ (x : Description). andThen (judge x (a .placement)) (λ (u : Unit {0}). ok x))) accepted)
+
+returns-2 : tie.Need-returns-2
+unfolding judged
+returns-2 c =
+    let accept = c .before .before .before .accept in
+    let told = c .before .admission .given in
+    let a = c .before .before .before .before .before .before .args in
+    let refusal = is-refused (describes (accept .last .1 .0)) (read (a .description .now)) (accept .ensures .0) (told .0 .0) (told .1) in
+    sym (ap (λ r. andThen r (λ (x : Description). andThen (judge x (a .placement)) (λ (u : Unit {0}). ok x))) refusal)
+
+pub judged-spec : {M : Type 1} → statement M
+judged-spec =
+    tie.close
+    (tie.spec accept-requires enum-told verdict-requires enum-known-admission returns returns-2)

@@ -1,0 +1,24 @@
+-- What both calls answer, as an enum: for every case the number and values.
+use Prim.Native.Nat.{ℕ}
+use mathlib.Core.List.{List}
+use lib.ListN.{length}
+use Rattle.description.specs.Format.{Description}
+use Rattle.security.specs.declared.answers.Verdict.{Verdict}
+use Rattle.security.specs.declared.answers.Verdict.the-variants as verdict
+use Rattle.picture.specs.declared.Pictured.{Pictured}
+use Rattle.picture.specs.declared.Pictured.the-variants.{Bytes, Refused}
+use Rattle.sequences.specs.Results.{Result, ok, refused, andThen}
+
+-- how many bytes the text has, or a refusal with its number and place
+abbrev pub pictureAnswer : Pictured → Result ℕ
+pictureAnswer (Bytes n) = ok n
+pictureAnswer (Refused r) = refused (r .number) (r .place)
+
+-- how many bytes were written
+abbrev pub sizeOf : Result (List ℕ) → Result ℕ
+sizeOf r = andThen r (λ text. ok (length text))
+
+-- a verdict on a placement of d
+abbrev pub verdictOn : Verdict → Description → Result Description
+verdictOn verdict.Secure d = ok d
+verdictOn (verdict.Refused r) d = refused (r .number) (r .place)

@@ -1,0 +1,32 @@
+-- The calls Picture and Picture size: what Read and then Judge refuse goes first, and a buffer that is too short comes last.
+use Prim.Native.Nat.{ℕ}
+use mathlib.Core.Bool.{cond}
+use mathlib.Core.List.{List, _++_}
+use lib.ListN.{length, drop}
+use lib.Dec.{ltb}
+use Rattle.description.specs.Format.{Description}
+use Rattle.security.specs.Soundness.{read}
+use Rattle.security.specs.Placements.{judge}
+use Rattle.sequences.specs.Results.{Result, ok, refused, andThen}
+use Rattle.picture.specs.Picture.{picture}
+
+-- what the bytes declare, if it is accepted and the placement is secure for it
+unfoldable pub judged : List ℕ → List ℕ → Result Description
+judged s p = andThen (read s) (λ d. andThen (judge d p) (λ secure. ok d))
+
+-- a buffer of n bytes has room for the text; 16, with the bytes needed: it is too short
+abbrev pub fitted : ℕ → List ℕ → Result (List ℕ)
+fitted n text = cond (ltb n (length text)) (refused 16 (length text)) (ok text)
+
+-- the text that is written to a buffer of n bytes
+unfoldable pub pictureCall : List ℕ → List ℕ → ℕ → Result (List ℕ)
+pictureCall s p n = andThen (judged s p) (λ d. fitted n (picture d p))
+
+-- how many bytes it has
+unfoldable pub sizeCall : List ℕ → List ℕ → Result ℕ
+sizeCall s p = andThen (judged s p) (λ d. ok (length (picture d p)))
+
+-- what a buffer holds after the call: the text and, beyond it, what stood there; after a refusal, what it held
+unfoldable pub bufferAfter : Result (List ℕ) → List ℕ → List ℕ
+bufferAfter (ok text) buffer = text ++ drop (length text) buffer
+bufferAfter (refused number place) buffer = buffer
