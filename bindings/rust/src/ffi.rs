@@ -71,7 +71,12 @@ pub fn judge(description: &[u8], placement: &[u8; 16]) -> Status {
     unsafe { library::panel_judge(bytes, length, placement.as_ptr()) }
 }
 
-pub fn transfers(
+/// A call that writes what it says of a placement to a lent buffer, and how much that is.
+type Writing =
+    unsafe extern "C" fn(*const u8, usize, *const u8, *mut u8, usize, *mut u64) -> Status;
+
+fn write(
+    call: Writing,
     description: &[u8],
     placement: &[u8; 16],
     buffer: &mut [u8],
@@ -81,7 +86,22 @@ pub fn transfers(
     let (lent, room) = (buffer.as_mut_ptr(), buffer.len());
     // SAFETY: `bytes` is valid for `length` reads, `placement` for sixteen; `lent` is valid for
     // `room` bytes of writes and `count` for one word, and the two do not overlap.
-    unsafe { library::panel_transfers(bytes, length, placement.as_ptr(), lent, room, count) }
+    unsafe { call(bytes, length, placement.as_ptr(), lent, room, count) }
+}
+
+pub fn transfers(
+    description: &[u8],
+    placement: &[u8; 16],
+    buffer: &mut [u8],
+    count: &mut u64,
+) -> Status {
+    write(
+        library::panel_transfers,
+        description,
+        placement,
+        buffer,
+        count,
+    )
 }
 
 pub fn picture(
@@ -90,11 +110,13 @@ pub fn picture(
     buffer: &mut [u8],
     count: &mut u64,
 ) -> Status {
-    let (bytes, length) = (description.as_ptr(), description.len());
-    let (lent, room) = (buffer.as_mut_ptr(), buffer.len());
-    // SAFETY: `bytes` is valid for `length` reads, `placement` for sixteen; `lent` is valid for
-    // `room` bytes of writes and `count` for one word, and the two do not overlap.
-    unsafe { library::panel_picture(bytes, length, placement.as_ptr(), lent, room, count) }
+    write(
+        library::panel_picture,
+        description,
+        placement,
+        buffer,
+        count,
+    )
 }
 
 pub fn picture_size(description: &[u8], placement: &[u8; 16], count: &mut u64) -> Status {

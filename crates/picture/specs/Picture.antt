@@ -18,21 +18,21 @@ letterOf (Datum size longevity) = ascii "d"
 letterOf (Service clearance units) = ascii "s"
 
 -- a block on a cloud
-abbrev pub node : List ℕ → (block cloud : ℕ) → List ℕ
-node letter block cloud = letter ++ decimal block ++ ascii "_" ++ decimal cloud
+abbrev pub node : List ℕ → (number cloud : ℕ) → List ℕ
+node letter number cloud = letter ++ decimal number ++ ascii "_" ++ decimal cloud
 
-abbrev pub datumNode : (datum cloud : ℕ) → List ℕ
+abbrev pub datumNode : (number cloud : ℕ) → List ℕ
 datumNode = node (ascii "d")
 
-abbrev pub serviceNode : (service cloud : ℕ) → List ℕ
+abbrev pub serviceNode : (number cloud : ℕ) → List ℕ
 serviceNode = node (ascii "s")
 
--- the transfer on an edge, and the copy of the datum that it makes on a cloud
-abbrev pub transferNode : (edge : ℕ) → List ℕ
-transferNode edge = ascii "x" ++ decimal edge
+-- the transfer on edge n, and the copy of a datum that it makes on a cloud
+abbrev pub transferNode : ℕ → List ℕ
+transferNode n = ascii "x" ++ decimal n
 
-abbrev pub copyNode : (datum cloud edge : ℕ) → List ℕ
-copyNode datum cloud edge = datumNode datum cloud ++ ascii "_e" ++ decimal edge
+abbrev pub copyNode : (datum cloud n : ℕ) → List ℕ
+copyNode datum cloud n = datumNode datum cloud ++ ascii "_e" ++ decimal n
 
 abbrev pub arrow : List ℕ
 arrow = ascii " -> "
