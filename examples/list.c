@@ -1,6 +1,7 @@
 /*
  * Lists the options of the description on standard input, as the program listoptions prints them, through the library for C. With an
- * argument, the clouds of a placement as a row shows them (such as 11000), it prints the picture of that placement instead.
+ * argument, the clouds of a placement as a row shows them (such as 11000), it prints the picture of that placement instead; with the
+ * option -c, the clouds that a panel would let one choose for each block.
  */
 #include <inttypes.h>
 #include <stdio.h>
@@ -50,6 +51,26 @@ static void print_picture(size_t length, const uint8_t placement[PANEL_BLOCKS])
         fwrite(picture, 1, count[0], stdout);
 }
 
+/* A line for each block: its number, and for each cloud its digit, or a dot where the panel would grey it out. */
+static void print_choices(size_t length)
+{
+    uint64_t counts[3];
+    uint8_t masks[PANEL_BLOCKS];
+    uint64_t status = panel_read(description, length, counts);
+    if (status == 0)
+        status = panel_masks(description, length, masks);
+    if (status != 0) {
+        print_refusal(status);
+        return;
+    }
+    for (uint64_t block = 0; block < counts[1]; block++) {
+        printf("%" PRIu64 " ", block);
+        for (uint64_t cloud = 0; cloud < counts[0]; cloud++)
+            putchar(masks[block] >> cloud & 1 ? '0' + (int)cloud : '.');
+        putchar('\n');
+    }
+}
+
 /*
  * A placement from the digits of its first blocks; the others get cloud 0. Only digits that a row can show are taken: 8 and 9 are not,
  * since no description has nine clouds.
@@ -68,9 +89,10 @@ static bool read_placement(const char *digits, uint8_t placement[PANEL_BLOCKS])
 int main(int argc, char *argv[])
 {
     uint8_t placement[PANEL_BLOCKS];
-    bool pictured = argc > 1;
+    bool choosing = argc == 2 && strcmp(argv[1], "-c") == 0;
+    bool pictured = argc > 1 && !choosing;
     if (pictured && (argc > 2 || !read_placement(argv[1], placement))) {
-        fputs("list: the only argument is a placement: 1 to 16 digits from 0 to 7, the cloud of each block\n", stderr);
+        fputs("list: the only argument is -c or a placement: 1 to 16 digits from 0 to 7, the cloud of each block\n", stderr);
         return 1;
     }
     size_t length = fread(description, 1, sizeof description, stdin);
@@ -78,7 +100,9 @@ int main(int argc, char *argv[])
         perror("standard input");
         return 1;
     }
-    if (pictured)
+    if (choosing)
+        print_choices(length);
+    else if (pictured)
         print_picture(length, placement);
     else
         print_list(length);

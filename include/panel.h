@@ -1,5 +1,5 @@
 /*
- * The placement engine for C: eight calls on a description of a workflow and its clouds. docs/FORMAT.md has the format, the rules and
+ * The placement engine for C: nine calls on a description of a workflow and its clouds. docs/FORMAT.md has the format, the rules and
  * what a placement, a row and an option are; each call is proved to do what the definitions behind that document say.
  *
  * A description is any bytes with their length. Nothing has to hold of them: what is wrong comes back as a refusal.
@@ -40,7 +40,7 @@
  * writes what another is lent. No call allocates, and each ends. PANEL_STACK bytes of stack are enough for any call: this was measured and
  * read from the compiled code, and is not proved.
  *
- * Example: all rows, the cheapest first, one draw at a time (examples/list.c lists them with one call, and prints pictures).
+ * Example: all rows, the cheapest first, one draw at a time (examples/list.c lists them with one call, and prints pictures and masks).
  *
  *     uint8_t past[PANEL_BLOCKS] = {0}, row[PANEL_BLOCKS];
  *     uint64_t answer[5];
@@ -60,7 +60,7 @@
 #include <stddef.h>
 #include <stdint.h>
 
-#define PANEL_BLOCKS 16      /* bytes of a placement: the cloud of each block, and 0 where there is no block */
+#define PANEL_BLOCKS 16      /* bytes of a placement: the cloud of each block, and 0 where there is no block; also of the masks */
 #define PANEL_TRANSFERS 128  /* bytes that hold the transfers of any placement */
 #define PANEL_PICTURE 1374   /* bytes that hold the picture of any placement */
 #define PANEL_ROW 5          /* words of a row in a list */
@@ -80,6 +80,14 @@ extern "C" {
  * counts: clouds, blocks, edges.
  */
 uint64_t panel_read(const uint8_t *description, size_t length, uint64_t counts[3]);
+
+/*
+ * Masks: which clouds each block may use by itself, by rule 7 and its pin; whether a whole placement is secure is panel_judge's to say.
+ * Refuses with 1 to 12.
+ * masks: a byte for each block, with bit k (1 << k) set exactly where the block may stand on cloud k. 0 is a block that may stand nowhere;
+ *        the bytes past the last block are 0 too.
+ */
+uint64_t panel_masks(const uint8_t *description, size_t length, uint8_t masks[16]);
 
 /*
  * Judge: is the placement secure? Refuses with 1 to 15, and with 17; writes nothing.

@@ -1,10 +1,10 @@
 #!/usr/bin/env python3
 """The brute-force model (model.py) as a command, with the cases that are stored.
 
-    bruteforce.py answer [--letters RJTCDPB]        cases in, one line for each out
-    bruteforce.py list                              a description in, its rows out
-    bruteforce.py generate [--letters RJTCDPB] DIR  write DIR/stdin and DIR/stdout
-    bruteforce.py check [--letters RJTCDPB] DIR     are they what would be written today?
+    bruteforce.py answer [--letters RJTCDPBM]        cases in, one line for each out
+    bruteforce.py list                               a description in, its rows out
+    bruteforce.py generate [--letters RJTCDPBM] DIR  write DIR/stdin and DIR/stdout
+    bruteforce.py check [--letters RJTCDPBM] DIR     are they what would be written today?
 
 Parts: the cases that are stored, letter by letter; the checks; the command line.
 """
@@ -25,14 +25,15 @@ from cases import (ALL_READ, APART_COMMANDS, EIGHT_APART, EIGHT_CLOUDS, EIGHT_PA
                    TWO_BY_TWO, accepted, add_random_pairs, answer_all, apart, apart_workflow,
                    assorted_candidates, bend, census_case, cloud, commands_of, counted,
                    cursor_bytes, damage_bytes, damage_commands, datum, dice_of, draw_case,
-                   judge_case, meeting, picture_case, pin, placed, random_placement, random_text,
-                   random_workflow, read_case, reads, refused, refused_at_each, rooms, row_line,
-                   ruled, service, size_case, spoil, start_case, together, transfers_case,
-                   untouched, verdict, with_buffer, with_length, writes)
+                   judge_case, masks_case, meeting, picture_case, pin, placed, random_placement,
+                   random_text, random_workflow, read_case, reads, refused, refused_at_each, rooms,
+                   row_line, ruled, service, size_case, spoil, start_case, together,
+                   transfers_case, untouched, verdict, with_buffer, with_length, writes)
+from mask_cases import mask_cases, misfit, missing_masks
 from model import (HIGHEST, MOST_BLOCKS, MOST_CANDIDATES, MOST_CLOUDS, MOST_EDGES, MOST_PAIRS,
                    READS, WRITES, Amounts, Cloud, Datum, Description, Edge, Refused, Row, Service,
                    allowed, candidates, census, count_candidates, decode, digits, draw, gigabytes,
-                   is_secure, judge, keeps_rule_3, keeps_rule_4, listing, moves, option_of,
+                   is_secure, judge, keeps_rule_3, keeps_rule_4, listing, masks, moves, option_of,
                    picture, picture_of, picture_size, read, row_at, rows)
 from picture_cases import (INTERVIEW_PICTURE, compare_sizes, fault_in, missing_kinds,
                            picture_cases, size_cases)
@@ -1519,11 +1520,11 @@ def draw_cases(dice):
 # In the order in which they are stored.  Each group has dice of its own, so a letter
 # that is added here at the end leaves what stands before it as it is.
 GROUPS = {"R": read_cases, "J": judge_cases, "T": transfers_cases, "C": census_cases,
-          "D": draw_cases, "P": picture_cases, "B": size_cases}
+          "D": draw_cases, "P": picture_cases, "B": size_cases, "M": mask_cases}
 
 NUMBERS_DUE = {"R": range(1, 13), "J": (*range(1, 16), 17), "T": range(1, 18),
                "C": range(1, 13), "D": range(1, 13), "P": range(1, 18),
-               "B": (*range(1, 16), 17)}
+               "B": (*range(1, 16), 17), "M": range(1, 13)}
 
 
 def stored_cases(letters):
@@ -1634,6 +1635,13 @@ def check_picture():
     require(buffer == INTERVIEW_PICTURE + untouched(1), "picture: 11000")
 
 
+def check_interview_masks():
+    """Of M's five blocks the first may use cloud 1 alone, and each other one both."""
+    for text in (M, M_APART):
+        require(answer_all(masks_case(text).content, "M") == ["masks 0203030303" + 22 * "0"],
+                "masks of the interview")
+
+
 def check_bad_cases():
     """What is no case ends the answers."""
     whole = read_case(M).content
@@ -1645,7 +1653,7 @@ def check_bad_cases():
                            (judge_case(M, placed()).content[:-1], ["bad case"])):
         require(answer_all(content, "RJT") == lines, f"bad case: {content.hex()}")
     for case in (read_case(M), draw_case(M, None), picture_case(M, placed(), 5),
-                 size_case(M, placed())):
+                 size_case(M, placed()), masks_case(M)):
         for length in range(1, len(case.content)):
             cut = case.content[:length]
             require(answer_all(cut, LETTERS) == ["bad case"], f"{case.letter()} cut at {length}")
@@ -1661,7 +1669,7 @@ def check_bad_cases():
 
 
 def check_examples():
-    """The stored examples: their bytes, the listing that shows these, their rows, a picture."""
+    """The stored examples: their bytes and how these are shown, rows, clouds, a picture."""
     examples = ROOT / "examples"
     for name, text in (("interview", M), ("second", SECOND), ("apart", M_APART)):
         require(stored_bytes(examples / f"{name}.bin") == text, f"examples/{name}.bin differs")
@@ -1669,12 +1677,21 @@ def check_examples():
                 f"examples/{name}.txt does not show the bytes of {name}.bin")
         require(stored_bytes(examples / f"{name}.expected") == text_of(listing(text)),
                 f"examples/{name}.expected is not the list of {name}.bin")
+        require(stored_bytes(examples / f"{name}.clouds") == text_of(choices(text)),
+                f"examples/{name}.clouds has not the clouds of {name}.bin")
     for name, text, placement in (("interview", M, placed(1, 1)),
                                   ("second", SECOND, rows(SECOND)[0].placement),
                                   ("apart", M_APART, rows(M_APART)[0].placement)):
         drawn = picture_of(read(text), placement).encode("ascii")
         require(stored_bytes(examples / f"{name}.dot") == drawn,
                 f"examples/{name}.dot is not the picture of {digits(placement)}")
+
+
+def choices(text):
+    """A line for each block: its number, and the clouds that it may use, a dot for each other."""
+    clouds, blocks = len(read(text).clouds), len(read(text).blocks)
+    return [f"{b} " + "".join(str(k) if byte >> k & 1 else "." for k in range(clouds))
+            for b, byte in enumerate(masks(text)[:blocks])]
 
 
 def shown_bytes(path):
@@ -1833,6 +1850,19 @@ def check_picture_sizes(cases, lines):
     print(f"{met} sizes beside their pictures")
 
 
+def check_masks(cases, lines):
+    """The answers of Masks: each beside the candidates, and what they show between them."""
+    own = [(case.text(), line) for case, line in zip(cases, lines) if case.letter() == "M"]
+    for text, line in own:
+        fault = misfit(text, line)
+        require(fault is None, f"{line}: {fault}: {text.hex()}")
+    answered = [(text, line) for text, line in own if line.startswith("masks ")]
+    missing, seen = missing_masks(answered)
+    require(not missing, f"no answer of Masks shows {missing}")
+    print(f"{len(answered)} masks beside their candidates; "
+          + ", ".join(f"{kind}: {times}" for kind, times in sorted(seen.items())))
+
+
 def check_numbers(letter, lines):
     seen = {number for _, number in map(kind_of, lines)}
     missing = sorted(set(NUMBERS_DUE[letter]) - seen)
@@ -1844,6 +1874,7 @@ def check(letters, directory):
     check_apart()
     check_halves()
     check_picture()
+    check_interview_masks()
     check_bad_cases()
     check_examples()
     cases, lines = answered_cases(letters)
@@ -1856,6 +1887,8 @@ def check(letters, directory):
         check_pictures(cases, lines)
     if {"P", "B"} <= set(letters):
         check_picture_sizes(cases, lines)
+    if "M" in letters:
+        check_masks(cases, lines)
     for letter in letters:
         own = [line for case, line in zip(cases, lines) if case.letter() == letter]
         check_numbers(letter, own)

@@ -12,13 +12,13 @@ from typing import NamedTuple
 from model import (APART, CLOUD, DATUM, END, HIGHEST, MOST_BLOCKS, MOST_CANDIDATES, MOST_PAIRS,
                    PIN, READS, SERVICE, WIDTHS, WRITES, Cloud, Datum, Description, Edge, Refused,
                    Service, allowed, census, check_placement, count_candidates, draw, judge,
-                   keeps_rule_3, keeps_rule_4, one_too_many, picture, picture_size, read,
+                   keeps_rule_3, keeps_rule_4, masks, one_too_many, picture, picture_size, read,
                    said_before, transfers)
 
 
 # ---- Cases and their answers ----------------------------------------------------------
 
-LETTERS = "RJCDTPB"
+LETTERS = "RJCDTPBM"
 MOST_ROOM = 2048                # bytes of a lent buffer
 FILLER = 0xA5                   # what a lent buffer holds before the call
 
@@ -109,8 +109,16 @@ def answer_size(text, tape):
     return f"bytes {picture_size(text, placement)}"
 
 
+def answer_masks(text, tape):
+    return masks_line(masks(text))
+
+
+def masks_line(found):
+    return f"masks {found.hex()}"
+
+
 ANSWERS = {"R": answer_read, "J": answer_judge, "C": answer_census, "D": answer_draw,
-           "T": answer_transfers, "P": answer_picture, "B": answer_size}
+           "T": answer_transfers, "P": answer_picture, "B": answer_size, "M": answer_masks}
 
 
 def answer_one(tape, letters):
@@ -150,7 +158,7 @@ class Case(NamedTuple):
         return self.content[3:3 + int.from_bytes(self.content[1:3], "big")]
 
     def placement(self):
-        """What follows the description in all cases but those of Read, Census and Draw."""
+        """What follows the description in all cases but those of Read, Masks, Census and Draw."""
         after = 3 + len(self.text())
         return self.content[after:after + 16]
 
@@ -244,6 +252,10 @@ def picture_case(text, placement, room, expected=None):
 
 def size_case(text, placement, expected=None):
     return Case(with_length(b"B", text) + placement, expected)
+
+
+def masks_case(text, expected=None):
+    return Case(with_length(b"M", text), expected)
 
 
 def census_case(text, expected=None):

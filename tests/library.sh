@@ -1,5 +1,5 @@
 #!/bin/sh
-# The library for C, called from C: examples/list.c must print the stored lists.
+# The library for C, called from C: examples/list.c must print the stored lists, and the stored clouds to choose from.
 set -eu
 cd "$(dirname "$0")/.."
 
@@ -11,7 +11,9 @@ cc -std=c11 -pedantic -Wall -Wextra -Werror -O2 -Iinclude -o "$list" examples/li
 
 for name in interview second apart; do
     "$list" <"examples/$name.bin" | cmp - "examples/$name.expected"
+    "$list" -c <"examples/$name.bin" | cmp - "examples/$name.clouds"
 done
 printf 'refused 1 0\n' >"$list.refused"
 "$list" </dev/null | cmp - "$list.refused"
+"$list" -c </dev/null | cmp - "$list.refused"
 echo "library: ok"

@@ -24,11 +24,14 @@ build() {
 build test tests/reference --release
 build test bindings/rust
 build build bindings/rust --example list
+list=target/rust/debug/examples/list
 for name in interview second apart; do
-    target/rust/debug/examples/list <"examples/$name.bin" | cmp - "examples/$name.expected"
+    "$list" <"examples/$name.bin" | cmp - "examples/$name.expected"
+    "$list" -c <"examples/$name.bin" | cmp - "examples/$name.clouds"
 done
-test "$(printf '\000' | target/rust/debug/examples/list)" = 'refused 8 1'
-tests/pictures.sh target/rust/debug/examples/list
+test "$(printf '\000' | "$list")" = 'refused 8 1'
+test "$(printf '\000' | "$list" -c)" = 'refused 8 1'
+tests/pictures.sh "$list"
 build test tests/differential --release
 build build tests/differential --release
 target/rust/release/differential 1000000 1

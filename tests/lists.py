@@ -24,7 +24,7 @@ from model import Refused, count_candidates, listing, read, row_at
 
 PROGRAMS = ROOT / "target" / "bin"
 # Bytes behind the description.
-OPERANDS = {"R": 0, "J": 16, "C": 0, "D": 25, "T": 18, "P": 18, "B": 16}
+OPERANDS = {"R": 0, "J": 16, "C": 0, "D": 25, "T": 18, "P": 18, "B": 16, "M": 0}
 NUMBER = r"(0|[1-9][0-9]*)"
 ROW = re.compile(rf"{NUMBER} ([0-7]+) {NUMBER} {NUMBER} {NUMBER}")
 MOST_DRAWS = 100

@@ -4,8 +4,8 @@ It knows no algorithm: decode the bytes, check the rules, enumerate the candidat
 each one, group the secure ones by option, keep the first of every group, sort.  It shares
 nothing with what it is compared to.
 
-Parts: the description; its rules; placements; options and rows; the picture of a
-placement; the calls.
+Parts: the description; its rules; the clouds that each block may use; placements; options
+and rows; the picture of a placement; the calls.
 """
 
 import bisect
@@ -263,6 +263,25 @@ def check_workflow(described):
         raise Refused(12, 0)
 
 
+# ---- The clouds that each block may use: sixteen bytes --------------------------------
+
+def is_permitted(described, b, k):
+    """What bit k of byte b says, for any two numbers.
+
+    The rule in its own words, and not `may_stand`: so the bytes can be compared with the
+    candidates.
+    """
+    if b >= len(described.blocks) or k >= len(described.clouds):
+        return False
+    high_enough = covers(described.clouds[k].level, level(described.blocks[b]))
+    return high_enough and (b not in described.pins or described.pins[b] == k)
+
+
+def masks_of(described):
+    return bytes(sum(2 ** k for k in range(MOST_CLOUDS) if is_permitted(described, b, k))
+                 for b in range(MOST_BLOCKS))
+
+
 # ---- Placements: sixteen bytes --------------------------------------------------------
 
 def candidates(described):
@@ -473,6 +492,10 @@ def read(text):
     described = decode(text)
     check_workflow(described)
     return described
+
+
+def masks(text):
+    return masks_of(read(text))
 
 
 def judge(text, placement):

@@ -1,5 +1,5 @@
 #!/bin/sh
-# Pictures, as an example program prints them: the stored ones, refusals, arguments that are no placement. Graphviz, if it is there, must
+# Pictures, as an example program prints them: the stored ones, refusals, arguments that it does not take. Graphviz, if it is there, must
 # draw the picture of every row of the examples.
 #
 #   tests/pictures.sh [PROGRAM]        the program is PROGRAM, or else target/list, which tests/library.sh builds
@@ -7,7 +7,7 @@ set -eu
 cd "$(dirname "$0")/.."
 list=${1:-target/list}
 work=target/pictures
-usage='list: the only argument is a placement: 1 to 16 digits from 0 to 7, the cloud of each block'
+usage='list: the only argument is -c or a placement: 1 to 16 digits from 0 to 7, the cloud of each block'
 
 test -x "$list" || { echo "pictures: there is no $list; tests/library.sh, or tests/library_rust.sh" >&2; exit 1; }
 mkdir -p "$work"
@@ -66,6 +66,8 @@ bad 9
 bad 1100x
 bad ' 11000'
 bad -1
+bad -x
+bad -c 11000
 bad "$(printf '\377')"
 bad 11000000000000000
 bad 11000 11000

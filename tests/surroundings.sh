@@ -49,7 +49,7 @@ settle() {
 
 # Ten megabytes of random bytes: alone, behind a whole description, behind whole cases, and cut into cases.
 python3 - "$work" <<'PYTHON'
-import random, sys
+import itertools, random, sys
 from pathlib import Path
 work, examples = Path(sys.argv[1]), Path("examples")
 noise = random.Random(20_010_911).randbytes(10_000_000)
@@ -58,7 +58,8 @@ parts = [noise[at:at + most] for at in range(0, len(noise), most)]
 (work / "noise").write_bytes(noise)
 (work / "behind").write_bytes((examples / "interview.bin").read_bytes() + noise)
 (work / "behind-cases").write_bytes((examples / "interview.cases").read_bytes() + noise)
-(work / "cases").write_bytes(b"".join(b"R" + len(part).to_bytes(2, "big") + part for part in parts))
+turns = zip(itertools.cycle((b"R", b"M")), parts)
+(work / "cases").write_bytes(b"".join(letter + len(part).to_bytes(2, "big") + part for letter, part in turns))
 
 # As many rows as there can be: sixteen data of the highest storage cost on two clouds, of which the second has a rate of one more.
 clouds = bytes.fromhex("01 00 FFFE 0000 0000 0000  01 00 FFFF 0000 0000 0000")

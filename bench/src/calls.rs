@@ -27,6 +27,7 @@ struct Subject {
 #[derive(PartialEq)]
 struct Lent {
     counts: [u64; 3],
+    masks: [u8; 16],
     transfers: [u8; 128],
     picture: [u8; engine::PICTURE],
     count: u64,
@@ -55,12 +56,18 @@ const fn call(name: &'static str, limit: u8, engine: Ask, plain: Ask) -> Call {
     Call { name, limit, sides }
 }
 
-const CALLS: [Call; 8] = [
+const CALLS: [Call; 9] = [
     call(
         "Read",
         1,
         |of, lent| engine::read(&of.text, &mut lent.counts),
         |of, lent| plain::read(&of.text, &mut lent.counts),
+    ),
+    call(
+        "Masks",
+        1,
+        |of, lent| engine::masks(&of.text, &mut lent.masks),
+        |of, lent| plain::masks(&of.text, &mut lent.masks),
     ),
     call(
         "Judge",
@@ -170,6 +177,7 @@ impl Lent {
     fn new() -> Self {
         Lent {
             counts: [0; 3],
+            masks: [0; 16],
             transfers: [0; 128],
             picture: [0; engine::PICTURE],
             count: 0,
@@ -205,14 +213,25 @@ fn agree_on_refusals(subject: &Subject) -> io::Result<()> {
         let changed =
             [0, 4, 7, 9, 16, 255].map(|byte| [&text[..at], &[byte], &text[at + 1..]].concat());
         for spoilt in changed.iter().map(Vec::as_slice).chain([&text[..at]]) {
-            let mut counts = [[0; 3]; 2];
-            let [engine, plain] = &mut counts;
-            if engine::read(spoilt, engine) != plain::read(spoilt, plain) || engine != plain {
-                return Err(io::Error::other(format!("Read differs on {spoilt:02x?}")));
+            let read = told(engine::read, spoilt, [0; 3]) == told(plain::read, spoilt, [0; 3]);
+            let masks = told(engine::masks, spoilt, [0; 16]) == told(plain::masks, spoilt, [0; 16]);
+            if !read || !masks {
+                let calls = "Read or Masks differs";
+                return Err(io::Error::other(format!("{calls} on {spoilt:02x?}")));
             }
         }
     }
     Ok(())
+}
+
+/// What a call answers, and what it leaves in what it is lent.
+fn told<T>(
+    call: impl Fn(&[u8], &mut T) -> Result<(), Refusal>,
+    text: &[u8],
+    mut lent: T,
+) -> (Result<(), Refusal>, T) {
+    let answer = call(text, &mut lent);
+    (answer, lent)
 }
 
 /// For each subject the least times of all calls. Everything takes turns, so that whatever else the

@@ -1,10 +1,13 @@
 //! The cases of `callcases` (docs/FORMAT.md, section 8), as far as they are measured: Draw, and
-//! Census to check the counts.
+//! Read, Judge and Census.
 
 use std::io::{self, BufWriter, Read, Write};
 
 use reference::description::{Description, read};
-use reference::rules::{Priced, Row};
+use reference::options::sorted_options;
+use reference::rules::{Placement, Priced, Row};
+
+use crate::generate::accepted;
 
 /// Answers the cases on standard input, each with one line on standard output. The callers'
 /// function says what follows where the description is not refused; its letter is 'D' or 'C'.
@@ -18,8 +21,7 @@ pub fn answer_all(
     while let [letter, high, low, after @ ..] = rest {
         let length = usize::from(*high) * 256 + usize::from(*low);
         let (text, after) = part(after, length)?;
-        let operands = if *letter == b'D' { 25 } else { 0 };
-        let (operands, after) = part(after, operands)?;
+        let (operands, after) = part(after, operands_of(*letter))?;
         match read(text) {
             Ok(described) => answer(*letter, &described, cursor(operands), &mut out)?,
             Err(refusal) => writeln!(out, "{refusal}")?,
@@ -27,6 +29,15 @@ pub fn answer_all(
         rest = after;
     }
     out.flush()
+}
+
+/// The bytes behind the description.
+fn operands_of(letter: u8) -> usize {
+    match letter {
+        b'D' => 25,
+        b'J' => 16,
+        _ => 0,
+    }
 }
 
 fn part(bytes: &[u8], length: usize) -> io::Result<(&[u8], &[u8])> {
@@ -86,8 +97,47 @@ pub fn draw_case(text: &[u8], cursor: Option<Priced>) -> Vec<u8> {
     case
 }
 
+/// Draws that see so many candidates together: from the start, from rows all along the list, from
+/// the last row, and from past everything, over and over.
+pub fn draws(text: &[u8], seen: u64) -> Vec<u8> {
+    let described = accepted(text);
+    let rows = sorted_options(&described);
+    let end = Priced {
+        cost: u64::MAX,
+        placement: [255; 16],
+    };
+    let mut cursors = vec![None, Some(end)];
+    cursors.extend((0..5).map(|part| Some(rows[part * rows.len() / 5])));
+    cursors.push(rows.last().copied());
+    let count = seen / described.candidate_count();
+    let turns = cursors.iter().cycle().take(count as usize);
+    turns.flat_map(|&cursor| draw_case(text, cursor)).collect()
+}
+
 pub fn census_case(text: &[u8]) -> Vec<u8> {
     case(b'C', text)
+}
+
+pub fn read_case(text: &[u8]) -> Vec<u8> {
+    case(b'R', text)
+}
+
+pub fn judge_case(text: &[u8], placement: &Placement) -> Vec<u8> {
+    let mut case = case(b'J', text);
+    case.extend(placement);
+    case
+}
+
+/// The same cases with descriptions that are refused at their first byte: as much to read, and
+/// nothing else to do.
+pub fn refused(mut cases: Vec<u8>) -> Vec<u8> {
+    let mut at = 0;
+    while let [letter, high, low, ..] = cases[at..] {
+        let length = usize::from(high) * 256 + usize::from(low);
+        cases[at + 3] = 255;
+        at += 3 + length + operands_of(letter);
+    }
+    cases
 }
 
 fn case(letter: u8, text: &[u8]) -> Vec<u8> {

@@ -1,5 +1,6 @@
 //! The descriptions that are measured. They come from a fixed seed, so every run has the same.
 
+use reference::description::{Description, read};
 use reference::random::Random;
 
 const END: u8 = 0;
@@ -37,17 +38,17 @@ impl Text {
         self.bytes.extend(number(&mut self.random, 60));
     }
 
-    /// A service that may run on every cloud and read every datum.
-    fn service(&mut self) {
-        self.bytes.extend([3, 0, 15, 0, 0]);
+    /// A service that may read every datum.
+    fn service(&mut self, location: u8) {
+        self.bytes.extend([3, location, 15, 0, 0]);
         self.bytes.extend(number(&mut self.random, 10_000));
     }
 
-    /// Services at the even numbers, data of this level at the odd ones.
-    fn blocks(&mut self, count: usize, level: u8) {
+    /// Services of this location at the even numbers, data of this level at the odd ones.
+    fn blocks(&mut self, count: usize, location: u8, level: u8) {
         for b in 0..count {
             if b % 2 == 0 {
-                self.service();
+                self.service(location);
             } else {
                 self.datum(level);
             }
@@ -89,13 +90,35 @@ impl Text {
     }
 }
 
+/// What is measured, as the reference reads it.
+pub fn accepted(text: &[u8]) -> Description {
+    read(text).expect("what is measured is accepted")
+}
+
+/// Edges in proportion to the blocks, 20 for 16.
+pub fn edges_for(blocks: usize) -> usize {
+    blocks * 5 / 4
+}
+
 /// Every block may use every cloud, so every candidate is secure.
 pub fn open(blocks: usize, clouds: u8, edges: usize) -> Vec<u8> {
     let mut text = Text::new();
     for _ in 0..clouds {
         text.cloud(0);
     }
-    text.blocks(blocks, 0);
+    text.blocks(blocks, 0, 0);
+    text.edges(blocks, edges);
+    text.end()
+}
+
+/// Every block may use two of eight clouds, those that are high enough for it; these are high enough
+/// for all data, so every candidate is secure.
+pub fn narrow(blocks: usize, high: [u8; 2], edges: usize) -> Vec<u8> {
+    let mut text = Text::new();
+    for cloud in 0..8 {
+        text.cloud(u8::from(high.contains(&cloud)));
+    }
+    text.blocks(blocks, 1, 1);
     text.edges(blocks, edges);
     text.end()
 }
@@ -121,7 +144,7 @@ pub fn guarded(blocks: usize, edges: usize) -> Vec<u8> {
     for level in 0..8 {
         text.cloud(level);
     }
-    text.blocks(blocks, 4);
+    text.blocks(blocks, 0, 4);
     text.edges(blocks, edges);
     text.end()
 }
@@ -152,7 +175,7 @@ pub fn chain(blocks: usize) -> Vec<u8> {
     for _ in 0..2 {
         text.cloud(0);
     }
-    text.blocks(blocks, 0);
+    text.blocks(blocks, 0, 0);
     for datum in (1..blocks).step_by(2) {
         text.writes(datum - 1, datum);
         if datum + 1 < blocks {
@@ -171,7 +194,7 @@ pub fn apart(free: usize) -> Vec<u8> {
     for _ in 0..4 {
         text.cloud(0);
     }
-    text.blocks(16, 0);
+    text.blocks(16, 0, 0);
     text.writes(0, 1);
     for datum in (3..16).step_by(2) {
         text.writes(datum - 1, datum);

@@ -3,6 +3,7 @@
 //! The programs in `bin/` do the engine's work in plain Rust, where they can by the definitions of
 //! `tests/reference`; `bin/driver.rs` times them, and single calls beside those of `plain.rs`.
 
+pub mod before;
 pub mod calls;
 pub mod cases;
 pub mod generate;

@@ -9,13 +9,16 @@ use std::time::Instant;
 /// Where inputs and outputs are kept, from the repository's root.
 const FOLDER: &str = "target/bench/data";
 
-pub struct Program {
-    path: &'static str,
-    words: &'static [&'static str],
+pub struct Program<'a> {
+    path: &'a str,
+    words: &'a [&'a str],
 }
 
-impl Program {
-    pub const fn new(path: &'static str, words: &'static [&'static str]) -> Self {
+/// The engine's program for Draw and other calls, from the repository's root.
+pub const CALLCASES: Program = Program::new("target/bin/callcases", &[]);
+
+impl<'a> Program<'a> {
+    pub const fn new(path: &'a str, words: &'a [&'a str]) -> Self {
         Program { path, words }
     }
 

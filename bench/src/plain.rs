@@ -1,4 +1,4 @@
-//! The eight calls as one writes them in Rust: from the bytes, with all refusals, by enumeration.
+//! The nine calls as one writes them in Rust: from the bytes, with all refusals, by enumeration.
 //! `calls.rs` measures the engine against them.
 //!
 //! Unlike `tests/reference` they keep on the stack what has a highest number: on a small description
@@ -19,6 +19,11 @@ pub fn read(description: &[u8], counts: &mut [u64; 3]) -> Result<(), Refusal> {
     let described = description::read(description)?;
     let [clouds, blocks] = [described.clouds.len(), described.blocks.len()];
     *counts = [clouds, blocks, described.edges.len()].map(|count| count as u64);
+    Ok(())
+}
+
+pub fn masks(description: &[u8], masks: &mut [u8; 16]) -> Result<(), Refusal> {
+    *masks = description::read(description)?.masks();
     Ok(())
 }
 

@@ -1,6 +1,7 @@
 //! Measures the engine against the same work in Rust and prints ratios, as tables in Markdown.
 //!
 //!     driver [draw|list|calls|all] [BITS]
+//!     driver before FOLDER [BITS]
 //!
 //! It runs at the repository's root. The largest descriptions have 2^BITS candidates, 2^16 where
 //! BITS is not given. Outputs that differ are a failure; a missed limit is not.
@@ -10,17 +11,15 @@ use std::path::Path;
 use std::process::ExitCode;
 use std::time::Instant;
 
+use bench::before::speed_since;
 use bench::calls::call_ratios;
-use bench::cases::{census_case, draw_case};
-use bench::generate::{apart, chain, data, guarded, open, pinned};
+use bench::cases::{census_case, draws};
+use bench::generate::{accepted, apart, chain, data, edges_for, guarded, narrow, open, pinned};
 use bench::markdown::{header, name_of};
-use bench::measure::{Program, agree, least, ratios, store};
+use bench::measure::{CALLCASES, Program, agree, least, ratios, store};
 use panel::calls::{LIST, SCRATCH, list};
-use reference::description::{Description, read};
 use reference::options::sorted_options;
-use reference::rules::Priced;
 
-const CALLCASES: Program = Program::new("target/bin/callcases", &[]);
 const LISTOPTIONS: Program = Program::new("target/bin/listoptions", &[]);
 const WALK: Program = Program::new("target/bench/release/walk", &[]);
 const PLAIN: Program = Program::new("target/bench/release/brute", &["plain"]);
@@ -44,9 +43,11 @@ fn main() -> ExitCode {
 fn measure() -> io::Result<()> {
     let words: Vec<String> = std::env::args().skip(1).collect();
     let subject = words.first().map_or("all", |word| word);
-    let bits = words.get(1).map_or(Ok(16), |word| word.parse());
-    let bits = bits.ok().filter(|bits| (6..=16).contains(bits));
-    let bits = bits.ok_or(io::Error::other("BITS is from 6 to 16"))?;
+    if subject == "before" {
+        let folder = words.get(1).ok_or(io::Error::other("before FOLDER"))?;
+        return speed_since(folder, bits_in(words.get(2))?);
+    }
+    let bits = bits_in(words.get(1))?;
     if ["draw", "all"].contains(&subject) {
         draw_ratios(bits)?;
         draw_growth(bits)?;
@@ -61,30 +62,10 @@ fn measure() -> io::Result<()> {
     Ok(())
 }
 
-fn accepted(text: &[u8]) -> Description {
-    read(text).expect("what is generated is accepted")
-}
-
-/// Draws that see so many candidates together: from the start, from rows all along the list, from
-/// the last row, and from past everything, over and over.
-fn draws(text: &[u8], seen: u64) -> Vec<u8> {
-    let described = accepted(text);
-    let rows = sorted_options(&described);
-    let end = Priced {
-        cost: u64::MAX,
-        placement: [255; 16],
-    };
-    let mut cursors = vec![None, Some(end)];
-    cursors.extend((0..5).map(|part| Some(rows[part * rows.len() / 5])));
-    cursors.push(rows.last().copied());
-    let count = seen / described.candidate_count();
-    let turns = cursors.iter().cycle().take(count as usize);
-    turns.flat_map(|&cursor| draw_case(text, cursor)).collect()
-}
-
-/// Edges in proportion to the blocks, 20 for 16.
-fn edges_for(blocks: usize) -> usize {
-    blocks * 5 / 4
+fn bits_in(word: Option<&String>) -> io::Result<usize> {
+    let bits = word.map_or(Ok(16), |word| word.parse());
+    let bits = bits.ok().filter(|bits| (6..=16).contains(bits));
+    bits.ok_or(io::Error::other("BITS is from 6 to 16"))
 }
 
 fn first_line(output: &[u8]) -> &[u8] {
@@ -113,6 +94,7 @@ fn draw_ratios(bits: usize) -> io::Result<()> {
     for text in [
         open(bits, 2, edges_for(bits)),
         open(on_8, 8, edges_for(on_8)),
+        narrow(bits, [6, 7], edges_for(bits)),
         guarded(2 * (bits / 5), edges_for(bits / 2)),
         apart(bits / 2),
     ] {

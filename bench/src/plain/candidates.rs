@@ -16,14 +16,11 @@ pub struct Candidates {
 
 impl Candidates {
     fn of(described: &Description) -> Self {
-        let (mut masks, mut first) = ([0u8; 16], [0; 16]);
-        for (b, block) in described.blocks.iter().enumerate() {
-            for cloud in described.choices(block) {
-                masks[b] |= 1 << cloud;
-            }
-            first[b] = masks[b].trailing_zeros() as u8;
+        let (masks, blocks) = (described.masks(), described.blocks.len());
+        let mut first = [0; 16];
+        for (cloud, mask) in first.iter_mut().zip(&masks[..blocks]) {
+            *cloud = mask.trailing_zeros() as u8;
         }
-        let blocks = described.blocks.len();
         let some = !masks[..blocks].contains(&0);
         Candidates {
             masks,

@@ -285,11 +285,20 @@ impl Description {
     }
 
     /// The clouds that a block may stand on, the lowest first.
-    pub fn choices(&self, block: &Block) -> impl Iterator<Item = u8> {
+    fn choices(&self, block: &Block) -> impl Iterator<Item = u8> {
         (0..self.clouds.len() as u8).filter(|&cloud| self.may_stand(block, cloud))
     }
 
-    pub fn candidate_count(&self) -> u64 {
+    /// A bit for each cloud that the block may stand on.
+    pub fn masks(&self) -> [u8; 16] {
+        let mut masks = [0; 16];
+        for (mask, block) in masks.iter_mut().zip(self.blocks.iter()) {
+            *mask = self.choices(block).fold(0, |mask, cloud| mask | 1 << cloud);
+        }
+        masks
+    }
+
+    fn candidate_count(&self) -> u64 {
         let counts = self.blocks.iter().map(|b| self.choices(b).count() as u64);
         counts.product()
     }

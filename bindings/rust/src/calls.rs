@@ -1,4 +1,4 @@
-//! The eight calls on bytes and lent memory, as the library has them.
+//! The nine calls on bytes and lent memory, as the library has them.
 //!
 //! [`Description`](crate::Description) is more convenient. These functions are for callers who keep
 //! the memory themselves: none allocates, and none keeps anything. Each one starts with what
@@ -44,6 +44,25 @@ fn answered(status: Status) -> Result<(), Refusal> {
 /// Refuses with 1 to 12.
 pub fn read(description: &[u8], counts: &mut [u64; 3]) -> Result<(), Refusal> {
     answered(ffi::read(description, counts))
+}
+
+/// Says in `masks` which clouds each block may use, by rule 7 and its pin: bit k of byte b is set
+/// exactly where block b may stand on cloud k. The byte of a block that may stand nowhere is 0, and
+/// so are those past the last block.
+///
+/// ```
+/// let mut masks = [9; 16];
+/// panel::calls::masks(include_bytes!("../../../examples/interview.bin"), &mut masks)?;
+/// assert_eq!(masks[..5], [0b10, 0b11, 0b11, 0b11, 0b11]);
+/// assert_eq!(masks[5..], [0; 11]);
+/// # Ok::<(), panel::Refusal>(())
+/// ```
+///
+/// # Errors
+///
+/// Refuses with 1 to 12.
+pub fn masks(description: &[u8], masks: &mut [u8; 16]) -> Result<(), Refusal> {
+    answered(ffi::masks(description, masks))
 }
 
 /// Judges a placement: secure, or refused.

@@ -72,6 +72,31 @@ impl Description {
         self.edges
     }
 
+    /// Which clouds each block may use by itself, by rule 7 and its pin: bit k of byte b is set
+    /// exactly where block b may stand on cloud k. The byte of a block that may stand nowhere is 0,
+    /// and so are those past the last block.
+    ///
+    /// A panel offers these clouds for the block and greys out the others. Whether the clouds chosen
+    /// for all blocks go together is for [`judge`](Self::judge) to say.
+    ///
+    /// ```
+    /// use panel::Description;
+    ///
+    /// let interview = Description::read(include_bytes!("../../../examples/interview.bin"))?;
+    /// let masks = interview.masks();
+    /// let may_use = |block: usize, cloud: usize| masks[block] >> cloud & 1 == 1;
+    /// assert!(!may_use(0, 0) && may_use(0, 1));
+    /// assert_eq!(masks[..5], [0b10, 0b11, 0b11, 0b11, 0b11]);
+    /// assert_eq!(masks[5..], [0; 11]);
+    /// # Ok::<(), panel::Refusal>(())
+    /// ```
+    #[must_use]
+    pub fn masks(&self) -> [u8; 16] {
+        let mut masks = [0; 16];
+        accepted(calls::masks(&self.bytes, &mut masks));
+        masks
+    }
+
     /// Judges a placement: `Ok` where it is secure.
     ///
     /// ```

@@ -14,6 +14,7 @@ mod library {
 
     unsafe extern "C" {
         pub fn panel_read(description: *const u8, length: usize, counts: *mut u64) -> Status;
+        pub fn panel_masks(description: *const u8, length: usize, masks: *mut u8) -> Status;
         pub fn panel_judge(description: *const u8, length: usize, placement: *const u8) -> Status;
         pub fn panel_transfers(
             description: *const u8,
@@ -63,6 +64,12 @@ pub fn read(description: &[u8], counts: &mut [u64; 3]) -> Status {
     let (bytes, length) = (description.as_ptr(), description.len());
     // SAFETY: `bytes` is valid for `length` reads, `counts` for the three words that are written.
     unsafe { library::panel_read(bytes, length, counts.as_mut_ptr()) }
+}
+
+pub fn masks(description: &[u8], masks: &mut [u8; 16]) -> Status {
+    let (bytes, length) = (description.as_ptr(), description.len());
+    // SAFETY: `bytes` is valid for `length` reads, `masks` for the sixteen bytes that are written.
+    unsafe { library::panel_masks(bytes, length, masks.as_mut_ptr()) }
 }
 
 pub fn judge(description: &[u8], placement: &[u8; 16]) -> Status {

@@ -3,9 +3,10 @@
 //! A *description* is a string of bytes that declares clouds, data, services, which service reads
 //! and writes which datum, and which data must never meet on one cloud (docs/FORMAT.md has all of
 //! it). A *placement* puts each block, that is each datum and service, on a cloud. The engine tells
-//! which placements are secure, what each costs, and lists the options that an editor has, cheapest
-//! first, one *row* for each, with what of its cost is for storage, for transfers and for cpu. A
-//! secure placement also has a *picture*, a text that Graphviz draws.
+//! which clouds a block may use, its *mask*; which placements are secure, what each costs, and lists
+//! the options that an editor has, cheapest first, one *row* for each, with what of its cost is for
+//! storage, for transfers and for cpu. A secure placement also has a *picture*, a text that Graphviz
+//! draws.
 //!
 //! ```
 //! use panel::{Description, Placement};

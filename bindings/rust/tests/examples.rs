@@ -126,6 +126,130 @@ fn interview_with(commands: &[u8]) -> Vec<u8> {
     [&INTERVIEW[..64], commands, &[0]].concat()
 }
 
+/// The bytes of the declared blocks; those past the last one are 0.
+fn masks(bytes: &[u8]) -> Vec<u8> {
+    let description = accepted(bytes);
+    let mut masks = [7; 16];
+    assert_eq!(calls::masks(bytes, &mut masks), Ok(()));
+    assert_eq!(description.masks(), masks);
+    let (declared, rest) = masks.split_at(description.blocks());
+    assert!(rest.iter().all(|&mask| mask == 0));
+    declared.to_vec()
+}
+
+#[test]
+fn the_examples_have_their_masks() {
+    assert_eq!(masks(INTERVIEW), [2, 3, 3, 3, 3]);
+    assert_eq!(masks(SECOND), [3, 2, 2, 2, 3, 2, 3, 3, 2, 2]);
+    // A pair takes nothing from the clouds that each datum may use.
+    assert_eq!(masks(APART), masks(INTERVIEW));
+}
+
+fn datum(level: u8) -> Vec<u8> {
+    vec![2, level, 0, 0, 0, 0]
+}
+
+fn service(location: u8, clearance: u8) -> Vec<u8> {
+    vec![3, location, clearance, 0, 0, 0, 0]
+}
+
+/// Clouds of these levels, and then these commands.
+fn on_levels(levels: &[u8], commands: &[Vec<u8>]) -> Vec<u8> {
+    let cloud = |&level| [1, level, 0, 0, 0, 0, 0, 0, 0, 0];
+    let clouds: Vec<_> = levels.iter().map(cloud).collect();
+    [clouds.as_flattened(), &commands.concat(), &[0]].concat()
+}
+
+/// Eight clouds whose levels rise and fall.
+const MIXED: [u8; 8] = [2, 1, 0, 1, 0, 1, 0, 2];
+
+#[test]
+fn a_mask_has_the_clouds_that_are_high_enough() {
+    let data: Vec<_> = (0..4).map(datum).collect();
+    assert_eq!(masks(&on_levels(&MIXED, &data)), [0xff, 0xab, 0x81, 0]);
+    // A service's location counts, and not its clearance.
+    let services: Vec<_> = (0..4).map(|location| service(location, 15)).collect();
+    assert_eq!(masks(&on_levels(&MIXED, &services)), [0xff, 0xab, 0x81, 0]);
+    // Clouds that are not declared are nowhere to stand, although level 0 would do.
+    assert_eq!(masks(&on_levels(&MIXED[..3], &data)), [7, 3, 1, 0]);
+    assert_eq!(masks(&data_alone(2, 16)), [3; 16]);
+}
+
+#[test]
+fn a_pin_leaves_one_cloud_or_none() {
+    let pinned = |block: Vec<u8>, cloud| masks(&on_levels(&MIXED, &[block, vec![6, 0, cloud]]));
+    assert_eq!(pinned(datum(0), 0), [0x01]);
+    assert_eq!(pinned(datum(0), 2), [0x04]);
+    assert_eq!(pinned(datum(1), 3), [0x08]);
+    assert_eq!(pinned(service(2, 2), 7), [0x80]);
+    // Cloud 2 is too low, and the pin does not lift that.
+    assert_eq!(pinned(datum(1), 2), [0]);
+    assert_eq!(pinned(service(1, 15), 2), [0]);
+}
+
+#[test]
+fn masks_are_refused_as_read_is() {
+    let one_cloud = |commands: &[Vec<u8>]| on_levels(&[0], commands);
+    let refused = [
+        vec![],
+        vec![255],
+        [INTERVIEW, &[0]].concat(),
+        data_alone(9, 1),
+        on_levels(&[16], &[]),
+        interview_with(&[4, 0, 0]),
+        interview_with(&[4, 1, 0]),
+        vec![0],
+        one_cloud(&[service(1, 0)]),
+        one_cloud(&[service(0, 0), datum(1), vec![4, 0, 1]]),
+        one_cloud(&[service(1, 1), datum(0), vec![5, 0, 1]]),
+        data_alone(3, 11),
+    ];
+    for (number, bytes) in (1..).zip(refused) {
+        let mut masks = [7; 16];
+        let refusal = calls::masks(&bytes, &mut masks).unwrap_err();
+        assert_eq!(refusal.number, number);
+        assert_eq!(Description::read(&bytes), Err(refusal));
+        assert_eq!(masks, [7; 16]);
+    }
+}
+
+/// A datum, a pinned service and a datum with few clouds.
+fn on_mixed_levels() -> Vec<u8> {
+    let pin = vec![6, 1, 5];
+    on_levels(&MIXED, &[datum(0), service(1, 2), datum(2), pin])
+}
+
+#[test]
+fn the_candidates_are_a_product_of_masks() {
+    for bytes in [INTERVIEW, SECOND, APART, &on_mixed_levels()] {
+        let masks = masks(bytes);
+        let choices = masks.iter().map(|mask| u64::from(mask.count_ones()));
+        let candidates = accepted(bytes).census().candidates;
+        assert_eq!(choices.product::<u64>(), candidates);
+    }
+}
+
+#[test]
+fn a_block_of_a_candidate_moves_on_the_clouds_of_its_mask() {
+    for bytes in [INTERVIEW, SECOND, APART, &on_mixed_levels()] {
+        let description = accepted(bytes);
+        let masks = description.masks();
+        let candidate = Placement(masks.map(|mask| (mask.trailing_zeros() % 8) as u8));
+        let moves = |block, cloud| {
+            let mut moved = candidate;
+            moved.0[block] = cloud;
+            let refused = description.judge(&moved).err();
+            refused.is_none_or(|refusal| refusal.number != 13)
+        };
+        for (block, &mask) in masks[..description.blocks()].iter().enumerate() {
+            for cloud in 0..=255 {
+                let offered = cloud < 8 && mask >> cloud & 1 == 1;
+                assert_eq!(moves(block, cloud), offered, "{block} to {cloud}");
+            }
+        }
+    }
+}
+
 #[test]
 fn pairs_are_refused_as_documented() {
     assert_eq!(interview_with(&[7, 0, 4]), APART);

@@ -11,6 +11,7 @@ use crate::input::read_all;
 use crate::lines::put_acceptance;
 use crate::lines::put_counted;
 use crate::lines::put_drawn;
+use crate::lines::put_masked;
 use crate::lines::put_pictured;
 use crate::lines::put_size;
 use crate::lines::put_transferred;
@@ -32,6 +33,7 @@ pub fn answer(letter: u8, description: &[u8], out: &mut Buffer, at: usize) -> Re
 {
     match letter {
         b'R' => answer_read(description, out, at),
+        b'M' => answer_masks(description, out, at),
         b'J' => answer_judge(description, out, at),
         b'C' => answer_census(description, out, at),
         b'D' => answer_draw(description, out, at),
@@ -47,6 +49,16 @@ fn answer_read(description: &[u8], out: &mut Buffer, at: usize) -> Reply
     ensures { λ r. ⌜ Within r ⌝ }
 {
     let at = put_acceptance(out, at, judging::read(description));
+    Reply::Line(put(out, at, b"\n"))
+}
+
+fn answer_masks(description: &[u8], out: &mut Buffer, at: usize) -> Reply
+    requires { ⌜ at + line ≤ size ⌝ }
+    ensures { λ r. ⌜ Within r ⌝ }
+{
+    let mut masks = [0u8; 16];
+    let answer = judging::masks(description, &mut masks);
+    let at = put_masked(out, at, answer, &masks);
     Reply::Line(put(out, at, b"\n"))
 }
 

@@ -4,11 +4,13 @@ ghost use Rattle.callcases.specs.Room.{size, words};
 use crate::buffer::Buffer;
 use crate::output::put;
 use crate::output::put_clouds;
+use crate::output::put_hex;
 use crate::output::put_number;
 use costs::answers::Bill;
 use costs::answers::Transferred;
 use description::workflow::Refusal;
 use judging::answers::Acceptance;
+use judging::answers::Masked;
 use lister::Answer;
 use lister::Counted;
 use lister::Drawn;
@@ -28,6 +30,19 @@ pub fn put_acceptance(out: &mut Buffer, at: usize, a: Acceptance) -> usize
             edges,
         } => put_counts(out, at, clouds, blocks, edges),
         Acceptance::Refused(r) => put_refusal(out, at, r),
+    }
+}
+
+pub fn put_masked(out: &mut Buffer, at: usize, m: Masked, masks: &[u8; 16]) -> usize
+    requires { ⌜ at + words ≤ size ⌝ }
+    ensures { λ r. ⌜ r ≤ at + words ⌝ }
+{
+    match m {
+        Masked::Written => {
+            let at = put(out, at, b"masks");
+            put_hex(out, at, masks)
+        }
+        Masked::Refused(r) => put_refusal(out, at, r),
     }
 }
 

@@ -1,14 +1,17 @@
--- What an admission tells of what Read gives: a refusal, or the description and how many candidates it has.
+-- What an admission tells of what Read gives: a refusal, or the description with its masks and how many candidates it has.
 use Prim.Native.Nat.{ℕ}
 use mathlib.Core.Path.{_≡_, sym, ap, _∙_}
+use mathlib.Core.List.{List}
 use Rattle.description.specs.Format.{Description}
 use Rattle.description.specs.declared.workflow.Refusal.{Refusal}
+use Rattle.security.specs.Masks.{masksOf}
 use Rattle.security.specs.Soundness.{count}
 use Rattle.sequences.specs.Results.{Result, ok, refused, andThen}
 use Rattle.sequences.proofs.Results.{ok-inj, ok-not-refused}
 use Rattle.judging.specs.declared.answers.Admission.{Admission}
 use Rattle.judging.specs.declared.answers.Admission.the-variants.{Accepted, Refused}
-use Rattle.judging.specs.Answers.{admissionOf, counted}
+use Rattle.judging.specs.Answers.{admissionOf, counted, masksAfter}
+use Rattle.judging.specs.Calls.{masked}
 
 -- the description that was counted, and the count
 pub record Counted (v : Result Description) (d : Description) (n : ℕ) : Type 0 where
@@ -31,3 +34,8 @@ module _ {o : Admission} (d : Description) (v : Result Description) (means : adm
       go : (x : Result Description) → refused (r .number) (r .place) ≡ counted x → x ≡ refused (r .number) (r .place)
       go (ok x) h = absurd (ok-not-refused (sym h))
       go (refused number place) h = sym (ap (λ t. andThen t (λ p. ok (p .0))) h)
+
+-- the masks that come with what was accepted
+pub masks-accepted : {v : Result Description} {d : Description} (before : List ℕ) {after : List ℕ} → v ≡ ok d → after ≡ masksAfter (masked v) before
+    → after ≡ masksOf d
+masks-accepted before e h = h ∙ ap (λ r. masksAfter (masked r) before) e

@@ -1,4 +1,5 @@
 pub mod Admissions
+pub mod Examples
 pub mod Judged
 pub mod Reached
 pub mod Refusals

@@ -1,4 +1,4 @@
--- Which numbers Read, Judge and Transfers refuse with, and how high their places are.
+-- Which numbers Read, Masks, Judge and Transfers refuse with, and how high their places are.
 use Prim.Native.Nat.{ℕ, _≤_}
 use native.Mathlib.Omega.{arith}
 use mathlib.Core.Path.{_≡_}
@@ -9,13 +9,14 @@ use Rattle.sequences.specs.Results.{ok, refused, andThen, RefusalWithin}
 use Rattle.sequences.proofs.Results.{within-more, within-cond, within-andThen}
 use Rattle.description.specs.Bytes.{decidingBytes}
 use Rattle.description.specs.Format.{Description}
+use Rattle.security.specs.Masks.{masksOf}
 use Rattle.security.specs.Soundness.{read}
 use Rattle.security.specs.Placements.{judge}
 use Rattle.security.proofs.Accepted.{read-wellFormed}
 use Rattle.security.proofs.Refusals.{read-within, judged-within}
 use Rattle.costs.specs.Transfers.{transfers, bytesOf, fitted}
 use Rattle.costs.proofs.Transferring.{bytes-length, transfers-few}
-use Rattle.judging.specs.Calls.{countsOf, readCall, judgeCall, transfersCall}
+use Rattle.judging.specs.Calls.{countsOf, readCall, masksCall, judgeCall, transfersCall}
 
 -- 128 bytes hold the transfers of any placement
 pub transfers-room : (s : List ℕ) (d : Description) → read s ≡ ok d → (p : List ℕ) → length (bytesOf (transfers d p)) ≤ 128
@@ -25,6 +26,10 @@ module _ (s : List ℕ) where
   pub readCall-within : RefusalWithin 12 decidingBytes (readCall s)
   unfolding readCall
   readCall-within = within-andThen 12 decidingBytes (read s) (λ d. ok (countsOf d)) (read-within s) (λ d e. tt)
+
+  pub masksCall-within : RefusalWithin 12 decidingBytes (masksCall s)
+  unfolding masksCall
+  masksCall-within = within-andThen 12 decidingBytes (read s) (λ d. ok (masksOf d)) (read-within s) (λ d e. tt)
 
   read-wider : (numbers : ℕ) → 12 ≤ numbers → RefusalWithin numbers decidingBytes (read s)
   read-wider numbers h = within-more numbers decidingBytes h (omega arith) (read s) (read-within s)

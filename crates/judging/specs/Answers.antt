@@ -1,11 +1,14 @@
--- What Read answers, as an enum: for every case the scope's number and values.
+-- What Read and Masks answer, as enums: for every case the scope's number and values.
 use Prim.Native.Nat.{ℕ}
+use mathlib.Core.List.{List}
 use Rattle.description.specs.Format.{Description}
 use Rattle.security.specs.Soundness.{count}
 use Rattle.judging.specs.declared.answers.Acceptance.{Acceptance}
 use Rattle.judging.specs.declared.answers.Acceptance.the-variants.{Accepted, Refused}
 use Rattle.judging.specs.declared.answers.Admission.{Admission}
 use Rattle.judging.specs.declared.answers.Admission.the-variants as admission
+use Rattle.judging.specs.declared.answers.Masked.{Masked}
+use Rattle.judging.specs.declared.answers.Masked.the-variants as masked
 use Rattle.judging.specs.Calls.{Counts}
 use Rattle.sequences.specs.Results.{Result, ok, refused, andThen}
 
@@ -21,3 +24,13 @@ admissionOf (admission.Refused r) d = refused (r .number) (r .place)
 
 abbrev pub counted : Result Description → Result (Description × ℕ)
 counted r = andThen r (λ d. ok (d, count d))
+
+-- Masks: its bytes are in the lent array, or a refusal with its number and place
+abbrev pub maskedAnswer : Masked → Result (Unit {0})
+maskedAnswer masked.Written = ok tt
+maskedAnswer (masked.Refused r) = refused (r .number) (r .place)
+
+-- the lent array after the call; after a refusal it is as it was
+abbrev pub masksAfter : Result (List ℕ) → List ℕ → List ℕ
+masksAfter (ok ms) before = ms
+masksAfter (refused number place) before = before

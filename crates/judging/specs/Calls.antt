@@ -1,8 +1,9 @@
--- The calls Read, Judge and Transfers: each takes the description's bytes and first gives what Read refuses.
+-- The calls Read, Masks, Judge and Transfers: each takes the description's bytes and first gives what Read refuses.
 use Prim.Native.Nat.{ℕ}
 use mathlib.Core.List.{List}
 use lib.ListN.{length}
 use Rattle.description.specs.Format.{Description}
+use Rattle.security.specs.Masks.{masksOf}
 use Rattle.security.specs.Soundness.{read}
 use Rattle.security.specs.Placements.{judge}
 use Rattle.costs.specs.Transfers.{Transfer, transfers, fitted}
@@ -19,6 +20,13 @@ countsOf d = record { clouds = length (d .clouds); blocks = length (d .blocks); 
 
 unfoldable pub readCall : List ℕ → Result Counts
 readCall s = andThen (read s) (λ d. ok (countsOf d))
+
+-- the sixteen bytes that say which clouds each block may use
+abbrev pub masked : Result Description → Result (List ℕ)
+masked r = andThen r (λ d. ok (masksOf d))
+
+unfoldable pub masksCall : List ℕ → Result (List ℕ)
+masksCall s = masked (read s)
 
 unfoldable pub judgeCall : List ℕ → List ℕ → Result (Unit {0})
 judgeCall s p = andThen (read s) (λ d. judge d p)

@@ -2,7 +2,8 @@
 ghost use mathlib.Core.Path.{_≡_};
 ghost use Rattle.description.specs.Meaning.{describes, Cleared};
 ghost use Rattle.security.specs.Soundness.{sound, read};
-ghost use Rattle.judging.specs.Answers.{admissionOf, counted};
+ghost use Rattle.judging.specs.Answers.{admissionOf, counted, masksAfter};
+ghost use Rattle.judging.specs.Calls.{masked};
 use crate::answers::Admission;
 use description::decode::decode;
 use description::words::Words;
@@ -11,8 +12,10 @@ use description::workflow::Outcome;
 use description::workflow::Refusal;
 use security::answers::Found;
 use security::answers::Rule;
+use security::masks::Masks;
+use security::masks::POSITIONS;
+use security::masks::masks_of;
 use security::placements::first_breaking;
-use security::soundness::candidate_count;
 use security::soundness::first_breaking_rule2;
 
 // The numbers that a decoded description is refused with.
@@ -32,9 +35,11 @@ fn refused(number: u8, place: usize) -> Admission
     Admission::Refused(Refusal { number, place })
 }
 
-// Rules 2 to 4 and the limit on candidates, in the order of their numbers.
-fn soundness(w: &Words) -> Admission
+// Rules 2 to 4 and the limit on candidates, in the order of their numbers. The masks are worked out here, once for a call; they are lent
+// back where all is kept.
+fn soundness(w: &Words, masks: &mut Masks) -> Admission
     ensures { λ r. ⌜ admissionOf r (describes (now (w .entry))) ≡ counted (sound (describes (now (w .entry)))) ⌝ }
+    ensures { λ _. ⌜ now (masks .exit) ≡ masksAfter (masked (sound (describes (now (w .entry))))) (now (masks .entry)) ⌝ }
 {
     let block = first_breaking_rule2(w);
     if let Found::At(b) = block {
@@ -48,25 +53,37 @@ fn soundness(w: &Words) -> Admission
     if let Found::At(n) = write {
         return refused(RULE_4, n);
     }
-    let candidates = candidate_count(w);
+    let mut permitted = [0u8; POSITIONS];
+    let candidates = masks_of(w, &mut permitted);
     if MOST_CANDIDATES < candidates {
         return refused(TOO_MANY_CANDIDATES, 0);
     }
+    *masks = permitted;
     Admission::Accepted(candidates)
 }
 
-// What Read accepts, decoded into the words; a refusal leaves them cleared.
-pub fn accept(description: &[u8], w: &mut Words) -> Admission
+// What Read accepts, decoded into the words, with its masks; a refusal leaves the words cleared and the masks as they were.
+pub fn accept_with_masks(description: &[u8], w: &mut Words, masks: &mut Masks) -> Admission
     ensures { λ r. ⌜ admissionOf r (describes (now (w .exit))) ≡ counted (read (now (description .entry))) ⌝ }
     ensures { λ _. ⌜ Cleared (read (now (description .entry))) (now (w .exit)) ⌝ }
+    ensures { λ _. ⌜ now (masks .exit) ≡ masksAfter (masked (read (now (description .entry)))) (now (masks .entry)) ⌝ }
 {
     let outcome = decode(description, w);
     if let Outcome::Refused(r) = outcome {
         return Admission::Refused(r);
     }
-    let admission = soundness(w);
+    let admission = soundness(w, masks);
     if let Admission::Refused(_) = admission {
         clear(w);
     }
     admission
+}
+
+// The same for calls that look at no candidate but the one they are given.
+pub fn accept(description: &[u8], w: &mut Words) -> Admission
+    ensures { λ r. ⌜ admissionOf r (describes (now (w .exit))) ≡ counted (read (now (description .entry))) ⌝ }
+    ensures { λ _. ⌜ Cleared (read (now (description .entry))) (now (w .exit)) ⌝ }
+{
+    let mut masks = [0u8; POSITIONS];
+    accept_with_masks(description, w, &mut masks)
 }

@@ -15,3 +15,9 @@ pub enum Admission {
     Accepted(u64),
     Refused(Refusal),
 }
+
+// What Masks answers. The sixteen bytes are in the lent array, since an enum holds no array.
+pub enum Masked {
+    Written,
+    Refused(Refusal),
+}

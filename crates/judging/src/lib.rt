@@ -1,11 +1,11 @@
-// Read, Judge and Transfers: the three calls that need no list of placements.
+// Read, Masks, Judge and Transfers: the calls that need no list of placements.
 ghost use mathlib.Core.Path.{_≡_};
 ghost use lib.ListN.{length};
 ghost use Rattle.sequences.specs.Results.{ok, andThen};
-ghost use Rattle.judging.specs.Answers.{readAnswer};
+ghost use Rattle.judging.specs.Answers.{readAnswer, maskedAnswer, masksAfter};
 ghost use Rattle.security.specs.Answers.{judgeAnswer};
 ghost use Rattle.costs.specs.Answers.{transfersAnswer};
-ghost use Rattle.judging.specs.Calls.{readCall, judgeCall, transfersCall};
+ghost use Rattle.judging.specs.Calls.{readCall, masksCall, judgeCall, transfersCall};
 ghost use Rattle.costs.specs.Transfers.{bufferAfter};
 
 pub mod acceptance;
@@ -13,12 +13,14 @@ pub mod answers;
 
 use answers::Acceptance;
 use answers::Admission;
+use answers::Masked;
 use costs::answers::Transferred;
 use description::words::WORDS;
 use description::workflow::block_count;
 use description::workflow::cloud_count;
 use description::workflow::edge_count;
 use security::answers::Verdict;
+use security::masks::Masks;
 
 // Read: the counts of clouds, blocks and edges of an accepted description, or its first refusal.
 pub fn read(description: &[u8]) -> Acceptance
@@ -33,6 +35,19 @@ pub fn read(description: &[u8]) -> Acceptance
             edges: edge_count(&w),
         },
         Admission::Refused(r) => Acceptance::Refused(r),
+    }
+}
+
+// Masks: which clouds each block may use, bit k of byte b for cloud k and block b.
+pub fn masks(description: &[u8], masks: &mut Masks) -> Masked
+    ensures { λ r. ⌜ maskedAnswer r ≡ andThen (masksCall (now (description .entry))) (λ ms. ok tt) ⌝ }
+    ensures { λ _. ⌜ now (masks .exit) ≡ masksAfter (masksCall (now (description .entry))) (now (masks .entry)) ⌝ }
+{
+    let mut w = [0u32; WORDS];
+    let admission = acceptance::accept_with_masks(description, &mut w, masks);
+    match admission {
+        Admission::Accepted(_) => Masked::Written,
+        Admission::Refused(r) => Masked::Refused(r),
     }
 }
 

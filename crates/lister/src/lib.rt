@@ -9,8 +9,9 @@ pub mod chain;
 
 use description::words::WORDS;
 use description::workflow::Refusal;
-use judging::acceptance::accept;
+use judging::acceptance::accept_with_masks;
 use judging::answers::Admission;
+use security::masks::POSITIONS;
 use survey::Cursor;
 use survey::Figures;
 use survey::Next;
@@ -41,9 +42,10 @@ pub fn census(description: &[u8]) -> Counted
     ensures { λ r. ⌜ censusAnswer r ≡ censusCall (now (description .entry)) ⌝ }
 {
     let mut w = [0u32; WORDS];
-    let admission = accept(description, &mut w);
+    let mut masks = [0u8; POSITIONS];
+    let admission = accept_with_masks(description, &mut w, &mut masks);
     match admission {
-        Admission::Accepted(candidates) => Counted::Counts(count_all(&w, candidates)),
+        Admission::Accepted(candidates) => Counted::Counts(count_all(&w, &masks, candidates)),
         Admission::Refused(r) => Counted::Refused(r),
     }
 }
@@ -79,9 +81,15 @@ pub fn draw(description: &[u8], cursor: Cursor) -> Drawn
     ensures { λ r. ⌜ r .row ≡ rowBeside (drawCall (now (description .entry)) cursor) ⌝ }
 {
     let mut w = [0u32; WORDS];
-    let admission = accept(description, &mut w);
+    let mut masks = [0u8; POSITIONS];
+    let admission = accept_with_masks(description, &mut w, &mut masks);
     match admission {
-        Admission::Accepted(candidates) => found_or_finished(row_past(&w, candidates, cursor)),
+        Admission::Accepted(candidates) => found_or_finished(row_past(
+            &w,
+            &masks,
+            candidates,
+            cursor,
+        )),
         Admission::Refused(r) => refused(r),
     }
 }

@@ -6,8 +6,8 @@ use mathlib.Core.List.{List}
 use Rattle.sequences.specs.Results.{Result, ok, refused, RefusalWithin}
 use Rattle.sequences.proofs.Results.{within-more}
 use Rattle.description.specs.Bytes.{Bytes, decidingBytes}
-use Rattle.judging.specs.Calls.{readCall, judgeCall, transfersCall}
-use Rattle.judging.proofs.Refusals.{readCall-within, judgeCall-within, transfersCall-within}
+use Rattle.judging.specs.Calls.{readCall, masksCall, judgeCall, transfersCall}
+use Rattle.judging.proofs.Refusals.{readCall-within, masksCall-within, judgeCall-within, transfersCall-within}
 use Rattle.picture.specs.Calls.{pictureCall, sizeCall}
 use Rattle.picture.specs.Picture.{pictureBytes}
 use Rattle.picture.proofs.Refusals.{pictureCall-within, sizeCall-within}
@@ -29,6 +29,7 @@ module _ {A : Type 0} where
 pub nothing-lost : (s : List ℕ) → Bytes s → NothingLost s
 nothing-lost s bytes = record {
   read = sooner 12 decidingBytes (omega arith) (omega arith) (readCall s) (readCall-within s);
+  masks = sooner 12 decidingBytes (omega arith) (omega arith) (masksCall s) (masksCall-within s);
   judge = λ p. sooner 17 decidingBytes (omega arith) (omega arith) (judgeCall s p) (judgeCall-within s p);
   transfers = λ p room. sooner 17 decidingBytes (omega arith) (omega arith) (transfersCall s p room) (transfersCall-within s p room);
   picture = λ p room. sooner 17 pictureBytes (omega arith) (omega arith) (pictureCall s p room) (pictureCall-within s p room);

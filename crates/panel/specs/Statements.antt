@@ -3,7 +3,7 @@ use Prim.Native.Nat.{ℕ, _/_, _%_, _<_}
 use mathlib.Core.Path.{_≡_}
 use mathlib.Core.List.{List}
 use Rattle.sequences.specs.Results.{Result, ok, refused}
-use Rattle.judging.specs.Calls.{readCall, judgeCall, transfersCall}
+use Rattle.judging.specs.Calls.{readCall, masksCall, judgeCall, transfersCall}
 use Rattle.picture.specs.Calls.{pictureCall, sizeCall}
 use Rattle.survey.specs.declared.Cursor.{Cursor}
 use Rattle.lister.specs.Calls.{censusCall, drawCall}
@@ -19,6 +19,7 @@ Readable (refused number place) =
 -- so it is with every call
 pub record NothingLost (s : List ℕ) : Type 0 where
   pub read : Readable (readCall s)
+  pub masks : Readable (masksCall s)
   pub judge : (p : List ℕ) → Readable (judgeCall s p)
   pub transfers : (p : List ℕ) (room : ℕ) → Readable (transfersCall s p room)
   pub picture : (p : List ℕ) (room : ℕ) → Readable (pictureCall s p room)

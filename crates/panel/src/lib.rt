@@ -1,12 +1,12 @@
-// The eight calls for C, declared in `include/panel.h`. Each answers a status, 0 or a refusal's number and place in one word, and puts the
+// The nine calls for C, declared in `include/panel.h`. Each answers a status, 0 or a refusal's number and place in one word, and puts the
 // values of its answer into lent arrays, which a refusal leaves as they were.
 ghost use mathlib.Core.Path.{_≡_};
 ghost use Prim.Native.Nat.{_-_, _^_, min};
 ghost use lib.ListN.{length};
-ghost use Rattle.judging.specs.Answers.{readAnswer};
+ghost use Rattle.judging.specs.Answers.{readAnswer, maskedAnswer, masksAfter};
 ghost use Rattle.security.specs.Answers.{judgeAnswer};
 ghost use Rattle.costs.specs.Answers.{transfersAnswer};
-ghost use Rattle.judging.specs.Calls.{readCall, judgeCall, transfersCall};
+ghost use Rattle.judging.specs.Calls.{readCall, masksCall, judgeCall, transfersCall};
 ghost use Rattle.costs.specs.Transfers.{bufferAfter};
 ghost use Rattle.picture.specs.Answers.{pictureAnswer};
 ghost use Rattle.picture.specs.Calls.{pictureCall, sizeCall, bufferAfter as pictureAfter};
@@ -18,6 +18,7 @@ ghost use Rattle.panel.specs.Values.{counts as countValues, transferCoun
 use costs::answers::Transferred;
 use description::workflow::Refusal;
 use judging::answers::Acceptance;
+use judging::answers::Masked;
 use lister::Answer;
 use lister::Counted;
 use lister::Drawn;
@@ -60,6 +61,15 @@ fn put_counts(answer: Acceptance, counts: &mut [u64; 3]) -> u64
             0
         }
         Acceptance::Refused(r) => refusal_status(r),
+    }
+}
+
+fn masked_status(answer: Masked) -> u64
+    ensures { λ r. ⌜ r ≡ status (maskedAnswer answer) ⌝ }
+{
+    match answer {
+        Masked::Written => 0,
+        Masked::Refused(r) => refusal_status(r),
     }
 }
 
@@ -163,6 +173,16 @@ pub extern "C" fn panel_read(description: &[u8], counts: &mut [u64; 3]) -> u64
 {
     let answer = judging::read(description);
     put_counts(answer, counts)
+}
+
+// Masks: bit k of byte b says that block b may stand on cloud k.
+#[no_mangle]
+pub extern "C" fn panel_masks(description: &[u8], masks: &mut [u8; 16]) -> u64
+    ensures { λ r. ⌜ r ≡ status (masksCall (now (description .entry))) ⌝ }
+    ensures { λ _. ⌜ now (masks .exit) ≡ masksAfter (masksCall (now (description .entry))) (now (masks .entry)) ⌝ }
+{
+    let answer = judging::masks(description, masks);
+    masked_status(answer)
 }
 
 // Judge: secure where the status is 0.

@@ -7,6 +7,7 @@ pub mod Holding
 pub mod Judging
 pub mod Meeting
 pub mod Moves
+pub mod PermittedClouds
 pub mod Refusals
 pub mod Sound
 pub mod Standing

@@ -1,11 +1,9 @@
-// The rules on the workflow itself, where each block may stand, and how many candidates that makes.
+// The rules on the workflow itself, and where each block may stand.
 ghost use mathlib.Core.Path.{_≡_};
-ghost use Prim.Native.Nat.{_≤_, _<_};
-ghost use lib.ListN.{length};
 ghost use Rattle.sequences.specs.Lists.{first};
 ghost use Rattle.description.specs.Meaning.{describes};
 ghost use Rattle.security.specs.Answers.{foundIn};
-ghost use Rattle.security.specs.Soundness.{covers, clearanceOf, breaks2, breaks3, breaks4, pinAllows, mayStand, choicesOf, count};
+ghost use Rattle.security.specs.Soundness.{covers, clearanceOf, breaks2, breaks3, breaks4, pinAllows, mayStand};
 use crate::answers::Found;
 use description::decode::is_write;
 use description::words::Words;
@@ -124,36 +122,4 @@ pub fn may_stand(w: &Words, b: usize, k: usize) -> bool
     }
     let pin = block.pin;
     pin_allows(pin, k)
-}
-
-// How many clouds block b may stand on.
-fn choice_count(w: &Words, b: usize) -> u64
-    requires { ⌜ b < length (describes (now w) .blocks) ⌝ }
-    ensures { λ r. ⌜ r ≡ length (choicesOf (describes (now (w .entry))) b) ⌝ }
-    ensures { λ r. ⌜ r ≤ 8 ⌝ }
-{
-    let clouds = cloud_count(w);
-    let mut n: u64 = 0;
-    let mut k = 0;
-    while k < clouds {
-        if may_stand(w, b, k) {
-            n += 1;
-        }
-        k += 1;
-    }
-    n
-}
-
-// How many candidates there are: at most 8 to the 16th power, so the product fits. A position past the last block has one choice.
-pub fn candidate_count(w: &Words) -> u64
-    ensures { λ r. ⌜ r ≡ count (describes (now (w .entry))) ⌝ }
-{
-    let blocks = block_count(w);
-    let mut n: u64 = 1;
-    let mut b = 0;
-    while b < blocks {
-        n *= choice_count(w, b);
-        b += 1;
-    }
-    n
 }

@@ -1,12 +1,15 @@
 pub mod Agreeing
 pub mod Ascending
+pub mod Bits
 pub mod Choices
 pub mod Counting
 pub mod Distinct
 pub mod Draws
 pub mod Equality
+pub mod Filling
 pub mod First
 pub mod Grouping
+pub mod Indexing
 pub mod Joined
 pub mod Lexicographic
 pub mod Loops
@@ -18,6 +21,7 @@ pub mod Parts
 pub mod Positions
 pub mod Representatives
 pub mod Results
+pub mod SetBits
 pub mod Sorting
 pub mod Sums
 pub mod Tests

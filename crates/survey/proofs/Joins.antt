@@ -31,7 +31,8 @@ use Rattle.visit.specs.Visits.{earlier as earlierWalk}
 use Rattle.visit.proofs.Drawing.{Best}
 use Rattle.walk.specs.Walking.{seeAt, keepAt}
 use Rattle.walk.proofs.Whole.{seen-in-turn, kept-in-turn}
-use Rattle.tables.specs.Building.{tablesOf, padded}
+use Rattle.security.specs.Masks.{padded}
+use Rattle.tables.specs.Building.{tablesOf}
 use Rattle.tables.proofs.Built.{weights, placements-are, placement-there}
 use Rattle.tables.proofs.Conflicting.{apart-is}
 use Rattle.tables.proofs.RowTest.{tests-same}

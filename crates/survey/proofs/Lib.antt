@@ -4,6 +4,7 @@ pub mod Cursors
 pub mod Drawing
 pub mod Joins
 pub mod Keeping
+pub mod Meeting
 pub mod RowOrder
 pub mod RowsInWords
 pub mod Standing

@@ -31,7 +31,7 @@ use Rattle.visit.proofs.Counters.{Counts, countedAs, counters}
 use Rattle.visit.proofs.Drawing.{Fits, Kept, kept-all}
 use Rattle.walk.specs.Walking.{seeAll}
 use Rattle.walk.proofs.Whole.{seen-in-turn}
-use Rattle.tables.specs.Building.{padded}
+use Rattle.security.specs.Masks.{padded}
 use Rattle.survey.specs.declared.Row.{Row}
 use Rattle.survey.specs.declared.Cursor.{Cursor}
 use Rattle.survey.specs.Joining.{Joined, met}

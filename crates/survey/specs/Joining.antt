@@ -13,7 +13,7 @@ use Rattle.costs.specs.Terms.{classIn}
 use Rattle.weights.specs.Weights.{classOf}
 use Rattle.visit.specs.Tables.{Tables, placements, weight}
 use Rattle.visit.specs.Tables.{apart as apartBy, stands as standsBy}
-use Rattle.tables.specs.Building.{padded}
+use Rattle.security.specs.Masks.{padded}
 use Rattle.survey.specs.Rows.{stands}
 
 -- the placements of the declared blocks, as the walk over the tables meets them

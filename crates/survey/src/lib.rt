@@ -5,6 +5,7 @@ ghost use Prim.Native.Nat.{_≤_};
 ghost use lib.ListN.{length, drop};
 ghost use Rattle.description.specs.Meaning.{describes};
 ghost use Rattle.security.specs.Accepted.{Admitted};
+ghost use Rattle.security.specs.Masks.{masksOf};
 ghost use Rattle.security.specs.Soundness.{count};
 ghost use Rattle.visit.specs.Visits.{Fresh};
 ghost use Rattle.survey.specs.Answers.{figuresOf, rowIn, rowOr, zeroRow};
@@ -17,6 +18,7 @@ use description::words::Words;
 use description::workflow::block_count;
 use packing::floor_place;
 use packing::unpacked;
+use security::masks::Masks;
 use visit::BEST_COST;
 use visit::BEST_PLACE;
 use visit::COUNTING;
@@ -67,22 +69,23 @@ pub struct Next {
 }
 
 // The walk over the tables of the workflow.
-fn walk_over(w: &Words, state: &mut State, kept: &mut [u64])
+fn walk_over(w: &Words, masks: &Masks, state: &mut State, kept: &mut [u64])
     requires { ⌜ Admitted (describes (now w)) ⌝ }
+    requires { ⌜ now masks ≡ masksOf (describes (now w)) ⌝ }
     requires { ⌜ Fresh (now state) ⌝ }
     ensures { λ _. ⌜ now (state .exit) ≡ seenOf (describes (now (w .entry))) (now (state .entry)) ⌝ }
     ensures { λ _. ⌜ now (kept .exit) ≡ keptOf (describes (now (w .entry))) (now (state .entry)) (now (kept .entry)) ⌝ }
 {
     let mut words = [0u64; TABLE_WORDS];
     let mut bytes = [0u8; TABLE_BYTES];
-    tables::fill(w, &mut words, &mut bytes);
+    tables::fill(w, masks, &mut words, &mut bytes);
     walk_all(&words, &bytes, block_count(w), state, kept);
 }
 
 // The same; where a block may stand nowhere there is nothing to meet, and the walk would try all clouds of the blocks before it.
-fn walk_candidates(w: &Words, candidates: u64, state: &mut State, kept: &mut [u64])
+fn walk_candidates(w: &Words, masks: &Masks, candidates: u64, state: &mut State, kept: &mut [u64])
     requires { ⌜ Admitted (describes (now w)) ⌝ }
-    requires { ⌜ candidates ≡ count (describes (now w)) ⌝ }
+    requires { ⌜ (candidates ≡ count (describes (now w))) × (now masks ≡ masksOf (describes (now w))) ⌝ }
     requires { ⌜ Fresh (now state) ⌝ }
     ensures { λ _. ⌜ now (state .exit) ≡ seenOf (describes (now (w .entry))) (now (state .entry)) ⌝ }
     ensures { λ _. ⌜ now (kept .exit) ≡ keptOf (describes (now (w .entry))) (now (state .entry)) (now (kept .entry)) ⌝ }
@@ -90,7 +93,7 @@ fn walk_candidates(w: &Words, candidates: u64, state: &mut State, kept: &mut [u6
     if candidates == 0 {
         return;
     }
-    walk_over(w, state, kept);
+    walk_over(w, masks, state, kept);
 }
 
 fn to_count() -> State
@@ -102,14 +105,14 @@ fn to_count() -> State
 }
 
 // How many candidates there are of each kind. Rule 16 is looked for first, then rule 17, then the pairs.
-pub fn count_all(w: &Words, candidates: u64) -> Figures
+pub fn count_all(w: &Words, masks: &Masks, candidates: u64) -> Figures
     requires { ⌜ Admitted (describes (now w)) ⌝ }
-    requires { ⌜ candidates ≡ count (describes (now w)) ⌝ }
+    requires { ⌜ (candidates ≡ count (describes (now w))) × (now masks ≡ masksOf (describes (now w))) ⌝ }
     ensures { λ r. ⌜ figuresOf r ≡ census (describes (now (w .entry))) ⌝ }
 {
     let mut state = to_count();
     let mut none = [0u64; 1];
-    walk_candidates(w, candidates, &mut state, &mut none);
+    walk_candidates(w, masks, candidates, &mut state, &mut none);
     Figures {
         candidates,
         breaking16: state[BREAKS_FIRST],
@@ -157,16 +160,16 @@ pub fn zero_row() -> Row
 }
 
 // The first row past a cursor.
-pub fn row_past(w: &Words, candidates: u64, cursor: Cursor) -> Next
+pub fn row_past(w: &Words, masks: &Masks, candidates: u64, cursor: Cursor) -> Next
     requires { ⌜ Admitted (describes (now w)) ⌝ }
-    requires { ⌜ candidates ≡ count (describes (now w)) ⌝ }
+    requires { ⌜ (candidates ≡ count (describes (now w))) × (now masks ≡ masksOf (describes (now w))) ⌝ }
     ensures { λ r. ⌜ rowIn r ≡ draw (describes (now (w .entry))) cursor ⌝ }
     ensures { λ r. ⌜ r .row ≡ rowOr (draw (describes (now (w .entry))) cursor) ⌝ }
 {
     let blocks = block_count(w);
     let mut state = to_draw_past(cursor, blocks);
     let mut none = [0u64; 1];
-    walk_candidates(w, candidates, &mut state, &mut none);
+    walk_candidates(w, masks, candidates, &mut state, &mut none);
     if state[BEST_COST] == COST_LIMIT {
         return Next {
             found: false,
@@ -187,14 +190,14 @@ pub fn row_past(w: &Words, candidates: u64, cursor: Cursor) -> Next
 }
 
 // The keys of all rows, in the order of the walk; and how many they are.
-pub fn keep_rows(w: &Words, candidates: u64, keys: &mut [u64]) -> usize
+pub fn keep_rows(w: &Words, masks: &Masks, candidates: u64, keys: &mut [u64]) -> usize
     requires { ⌜ Admitted (describes (now w)) ⌝ }
-    requires { ⌜ candidates ≡ count (describes (now w)) ⌝ }
+    requires { ⌜ (candidates ≡ count (describes (now w))) × (now masks ≡ masksOf (describes (now w))) ⌝ }
     requires { ⌜ keysNeeded (describes (now w)) ≤ length (now keys) ⌝ }
     ensures { λ r. ⌜ r ≡ length (rowsOf (describes (now (w .entry)))) ⌝ }
     ensures { λ _. ⌜ now (keys .exit) ≡ unsorted (describes (now (w .entry))) ++ drop (keysNeeded (describes (now (w .entry)))) (now (keys .entry)) ⌝ }
 {
     let mut state = to_count();
-    walk_candidates(w, candidates, &mut state, keys);
+    walk_candidates(w, masks, candidates, &mut state, keys);
     state[ROWS] as usize
 }

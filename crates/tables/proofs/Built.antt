@@ -2,38 +2,39 @@
 -- description, and the placements by them are the candidates.
 use Prim.Native.Nat.{ℕ, _+_, _-_, _*_, _/_, _%_, _≤_, _<_}
 use native.Mathlib.Omega.{arith}
-use mathlib.Core.Path.{_≡_, refl, sym, ap, ap₂, _∙_}
+use mathlib.Core.Path.{_≡_, refl, sym, ap, ap₂, subst, _∙_}
 use mathlib.Core.Bool.{Bool, true, false, _&&_, cond}
-use mathlib.Core.List.{List, [], _∷_, _++_, map, List·Memᴰ}
+use mathlib.Core.List.{List, map, List·Memᴰ, Memᴰ·map}
 use lib.Dec.{ltb, lit<}
-use lib.ListN.{length, getD, length-map}
+use lib.ListN.{length, getD, replicate, length-append, length-replicate}
 use borrow.Author.Tests.{lt-ltb, ltb-true, ltb-false}
 use Rattle.description.specs.declared.workflow.Edge.{Edge}
 use Rattle.description.specs.Format.{Description, noEdge, edge}
 use Rattle.description.specs.Invariants.{Limits, WellFormed, InRange}
-use Rattle.security.specs.Soundness.{mayStand, candidates}
+use Rattle.security.specs.Soundness.{candidates}
 use Rattle.security.specs.Placements.{serviceCloud, datumCloud}
 use Rattle.costs.specs.Terms.{blockTerm, edgeTerm, weightOf}
 use Rattle.costs.proofs.Charges.{weight-terms, block-small}
-use Rattle.security.proofs.Candidates.{candidates-choices}
-use Rattle.security.proofs.Choices.{stands-declared, last-choice}
-use Rattle.sequences.specs.Lists.{from, below, keep, sum, sequences}
-use Rattle.sequences.proofs.Choices.{sequences-members}
-use Rattle.sequences.proofs.Counting.{length-below, getD-below}
-use Rattle.sequences.proofs.Members.{keep-members, below-members, getD-map}
+use Rattle.security.proofs.Candidates.{candidates-placed}
+use Rattle.security.proofs.PermittedClouds.{mask-low, block-masks, masks-choose}
+use Rattle.sequences.specs.Bits.{bitChoices}
+use Rattle.sequences.specs.Lists.{below, sum}
+use Rattle.sequences.proofs.Counting.{length-below}
 use Rattle.sequences.proofs.Numbers.{kept-most}
 use Rattle.sequences.proofs.Positions.{everywhere}
 use Rattle.sequences.proofs.Tests.{cond-ind}
-use Rattle.visit.specs.Tables.{mask, term, end, start, allowed, placements, ownTerm, edgeTerm as termIn, weight, Ready}
+use Rattle.visit.specs.Tables.{mask, term, end, farEnd, start, placements, ownTerm, edgeTerm as termIn, weight, Ready}
 use Rattle.visit.proofs.Defined.{placements-of, weight-of}
 use Rattle.weights.specs.Weights.{termLimit}
 use Rattle.tables.specs.Building.{ownOf, later, other, lateIn, edgesBefore, startsOf, orderOf, edgeIn, endOf, endsOf}
-use Rattle.tables.specs.Building.{termOf, hasClouds, termAt, termsOf, exchangesOf, tablesOf, padded, joined, group}
+use Rattle.security.specs.Masks.{maskOf, masksOf, blockMasks, padded}
+use Rattle.tables.specs.Building.{termOf, hasClouds, termAt, termsOf, exchangesOf, tablesOf, joined, group}
 use Rattle.tables.proofs.EdgeSides.{term-small}
-use Rattle.tables.proofs.Exchanging.{own-at, mask-at, mask-low}
-use Rattle.tables.proofs.Filling.{getD-table, getD-tableTo, table-all}
-use Rattle.tables.proofs.Groups.{keep-all, same-on, from-split, map-append, joined-grows, joined-count, regroup}
-use Rattle.tables.proofs.Indexing.{map-below, map-constant, index-map, getD-padded, sequences-padded}
+use Rattle.tables.proofs.Ends.{other-least, later-low}
+use Rattle.tables.proofs.Exchanging.{own-at, mask-is}
+use Rattle.sequences.proofs.Filling.{getD-table, getD-tableTo, table-all}
+use Rattle.tables.proofs.Groups.{keep-all, joined-grows, joined-count, regroup}
+use Rattle.sequences.proofs.Indexing.{map-below, index-map, getD-padded}
 use Rattle.tables.proofs.Places.{term-in, end-in, start-in, on-both}
 use Rattle.description.proofs.Named.{service-block, datum-block}
 use Rattle.tables.proofs.Ordering.{order-before, order-at}
@@ -57,7 +58,7 @@ module _ (d : Description) where
       getD-tableTo 64 (length (d .edges) * 2) (λ j. endOf (edgeIn d (j / 2)) (j % 2)) (2 * i) (omega arith) (omega arith) ∙
       ap₂ (λ (a b : ℕ). endOf (edgeIn d a) b) q r
 
-  second-end : (i : ℕ) → i < length (d .edges) → i < 32 → end (tablesOf d) (2 * i + 1) ≡ other (edgeIn d i)
+  second-end : (i : ℕ) → i < length (d .edges) → i < 32 → end (tablesOf d) (2 * i + 1) ≡ 3 * (later (edgeIn d i) - other (edgeIn d i))
   unfolding tablesOf endsOf
   second-end i l h =
       let q : (2 * i + 1) / 2 ≡ i = omega arith in
@@ -65,6 +66,9 @@ module _ (d : Description) where
       end-in d (exchangesOf d) (2 * i + 1) (omega arith) ∙
       getD-tableTo 64 (length (d .edges) * 2) (λ j. endOf (edgeIn d (j / 2)) (j % 2)) (2 * i + 1) (omega arith) (omega arith) ∙
       ap₂ (λ (a b : ℕ). endOf (edgeIn d a) b) q r
+
+  far-end : (i : ℕ) → i < length (d .edges) → i < 32 → farEnd (tablesOf d) i ≡ other (edgeIn d i)
+  far-end i l h = omega (arith, first-end i l h, second-end i l h, other-least (edgeIn d i))
 
   -- what a block adds, and what the edge at a place adds
   own-is : (q : List ℕ) (b : ℕ) → b < 16 → getD q b 0 < 8 → ownTerm (tablesOf d) q b ≡ blockTerm d b (getD q b 0)
@@ -96,23 +100,14 @@ module _ (d : Description) where
       → termIn (tablesOf d) q i ≡ edgeTerm d (edgeIn d i) (getD q (edgeIn d i .service) 0) (getD q (edgeIn d i .datum) 0)
   term-is few q there i h =
       let i32 : i < 32 = omega (arith, few .edges) in
-      rw (first-end i h i32, second-end i h i32)
+      rw (far-end i h i32, first-end i h i32)
       (entry-is few i (getD q (later (edgeIn d i)) 0) (getD q (other (edgeIn d i)) 0) h (there _) (there _) ∙ turned (edgeIn d i) q)
-
--- the other end is not behind the later one
-other-least : (e : Edge) → other e ≤ later e
-other-least e = go (ltb (e .service) (e .datum)) refl
-  where
-    go : (b : Bool) → ltb (e .service) (e .datum) ≡ b → cond b (e .service) (e .datum) ≤ cond b (e .datum) (e .service)
-    go true h = let l = ltb-true (e .service) (e .datum) h in omega arith
-    go false h = ltb-false (e .service) (e .datum) h
 
 module _ (d : Description) (wf : WellFormed d) where
   -- every later end is a block
   late-low : (n : ℕ) → lateIn d n < length (d .blocks)
   late-low = everywhere (λ (e : Edge). later e < length (d .blocks)) noEdge (d .edges) (wf .someBlock) (λ i h.
-      cond-ind (λ (x : ℕ). x < length (d .blocks)) (ltb (edge d i .service) (edge d i .datum)) (edge d i .datum) (edge d i .service)
-      (λ _. datum-block d wf i h) (λ _. service-block d wf i h))
+      later-low (length (d .blocks)) (edge d i) (service-block d wf i h) (datum-block d wf i h))
 
   -- all edges have later ends below the number of blocks, and at most 32 have them below any number
   all-before : (k : ℕ) → length (d .blocks) ≤ k → edgesBefore d k ≡ length (d .edges)
@@ -124,12 +119,13 @@ module _ (d : Description) (wf : WellFormed d) where
   few-before k = omega (arith, kept-most (λ n. ltb (lateIn d n) k) (below (length (d .edges))), length-below (length (d .edges)))
 
   earlier-ends : (k i : ℕ) → k ≤ length (d .blocks) → i < start (tablesOf d) k
-      → (end (tablesOf d) (2 * i) < k) × (end (tablesOf d) (2 * i + 1) ≤ end (tablesOf d) (2 * i))
+      → (end (tablesOf d) (2 * i) < k) × (end (tablesOf d) (2 * i + 1) ≡ 3 * (end (tablesOf d) (2 * i) - farEnd (tablesOf d) i))
   earlier-ends k i l h =
       let j : i < edgesBefore d k = omega (arith, start-is d k l (omega (arith, wf .limits .blocks))) in
       let there : i < length (d .edges) = omega (arith, few-before k) in
       let i32 : i < 32 = omega (arith, wf .limits .edges) in
-      (rw (first-end d i there i32) (order-before d k i l j), rw (first-end d i there i32, second-end d i there i32) (other-least (edgeIn d i)))
+      let late = first-end d i there i32 in
+      (rw late (order-before d k i l j), omega (arith, late, second-end d i there i32, other-least (edgeIn d i)))
 
   later-ends : (k i : ℕ) → k < length (d .blocks) → start (tablesOf d) k ≤ i → i < start (tablesOf d) (k + 1) → end (tablesOf d) (2 * i) ≡ k
   later-ends k i l g h =
@@ -202,51 +198,36 @@ module _ (d : Description) (wf : WellFormed d) where
 
   -- ---- where blocks stand
 
-  -- a block may stand by the tables where it may by the description
-  allowed-is : (b k : ℕ) → b < length (d .blocks) → k < 8 → allowed (tablesOf d) b k ≡ mayStand d b k
+  mask-of-block : (b : ℕ) → b < length (d .blocks) → mask (tablesOf d) b ≡ maskOf d b
   unfolding tablesOf
-  allowed-is b k h l = mask-at d (exchangesOf d) b k (omega (arith, wf .limits .blocks)) h l
+  mask-of-block b h = mask-is d (exchangesOf d) b (omega (arith, wf .limits .blocks))
 
   masks-low : (b : ℕ) → b < length (d .blocks) → mask (tablesOf d) b < 256
-  unfolding tablesOf
-  masks-low b h = mask-low d (exchangesOf d) b (omega (arith, wf .limits .blocks))
+  masks-low b h = rw (mask-of-block b h) (mask-low d b)
 
-  -- the clouds on which it may
-  abbrev choices : ℕ → List ℕ
-  choices b = keep (allowed (tablesOf d) b) (below 8)
-
-  choices-are : (b : ℕ) → b < length (d .blocks) → keep (mayStand d b) (below 8) ≡ choices b
-  choices-are b h = same-on (mayStand d b) (allowed (tablesOf d) b) 0 8 (λ k l m. sym (allowed-is b k h (omega arith)))
-
-  -- the placements by the tables, as sixteen clouds, are the candidates, in the same order
-  pub placements-are : map (padded d) (placements (tablesOf d) (length (d .blocks))) ≡ candidates d
-  placements-are =
+  -- the placements by the tables are the choices by the masks
+  pub placements-by-masks : placements (tablesOf d) (length (d .blocks)) ≡ bitChoices (blockMasks d (masksOf d))
+  placements-by-masks =
       let n = length (d .blocks) in
-      let z = 16 - n in
-      let split : 16 ≡ n + z = omega (arith, wf .limits .blocks) in
-      let standing : ℕ → List ℕ = λ b. keep (mayStand d b) (below 8) in
-      ap (map (padded d)) (placements-of (tablesOf d) n) ∙
-      sym (candidates-choices d ∙
-      ap (λ (k : ℕ). sequences (map standing (below k))) split ∙
-      ap (λ (l : List ℕ). sequences (map standing l)) (from-split 0 n z) ∙
-      ap sequences (map-append standing (below n) (from (0 + n) z) ∙
-      ap₂ _++_ (map-below standing choices n choices-are) (map-constant standing (0 ∷ []) (0 + n) z (λ b l. last-choice d b (omega arith)))) ∙
-      sequences-padded z (map choices (below n)))
+      placements-of (tablesOf d) n ∙ ap bitChoices (map-below (mask (tablesOf d)) (maskOf d) n mask-of-block ∙ sym (block-masks d (wf .limits)))
+
+  -- so as sixteen clouds they are the candidates, in the same order
+  pub placements-are : map (padded d) (placements (tablesOf d) (length (d .blocks))) ≡ candidates d
+  placements-are = ap (map (padded d)) placements-by-masks ∙ masks-choose d (wf .limits) .exactly
 
   -- a placement by the tables has a declared cloud for each block
   pub placement-there : (q : List ℕ) → List·Memᴰ q (placements (tablesOf d) (length (d .blocks)))
       → (length q ≡ length (d .blocks)) × ((b : ℕ) → getD q b 0 < length (d .clouds))
   placement-there q m =
       let n = length (d .blocks) in
-      let (size, at) = sequences-members 0 (map choices (below n)) q .0 (rw (placements-of (tablesOf d) n) at m) in
-      let count : length (map choices (below n)) ≡ n = length-map (below n) choices ∙ length-below n in (
-        size ∙ count,
+      let z = 16 - n in
+      let candidate = subst (λ (l : List (List ℕ)). List·Memᴰ (padded d q) l) placements-are (Memᴰ·map (padded d) m) in
+      let (sixteen, placed) = candidates-placed d (wf .limits .clouds) (padded d q) .0 candidate in
+      let size : length q ≡ n = omega (arith, sixteen, length-append q (replicate z 0), length-replicate {A = ℕ} z 0, wf .limits .blocks) in (
+        size,
         everywhere (λ (x : ℕ). x < length (d .clouds)) 0 q (wf .someCloud) (λ b h.
-            let there : b < n = omega (arith, size, count) in
-            let inside : b < length (below n) = omega (arith, length-below n) in
-            let chosen = rw (getD-map choices (below n) b 0 [] inside, getD-below n b 0 there) at (at b (omega (arith, size))) in
-            let (low, may) = keep-members (allowed (tablesOf d) b) (below 8) (getD q b 0) .0 chosen in
-            stands-declared d b (getD q b 0) there (sym (allowed-is b (getD q b 0) there (below-members 8 (getD q b 0) .0 low)) ∙ may)),
+            let there : b < n = omega (arith, size) in
+            rw (getD-padded q z b) at (placed b (omega (arith, wf .limits .blocks)) .stands there .declared)),
       )
 
   -- ---- what the walk asks

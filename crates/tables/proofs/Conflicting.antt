@@ -25,10 +25,13 @@ use Rattle.sequences.proofs.Numbers.{kept-most}
 use Rattle.sequences.proofs.Tests.{both-pass, one-passes, and-fails}
 use Rattle.visit.specs.Tables.{conflictCount, conflict, clashes, apart}
 use Rattle.visit.proofs.Defined.{apart-where}
-use Rattle.tables.specs.Building.{table, Listed, isConflict, conflictsTo, conflictList, conflictsOf, exchangesOf, bytesOf, tablesOf, padded}
-use Rattle.tables.proofs.Filling.{getD-table, list-ends}
+use Rattle.sequences.specs.Arrays.{table}
+use Rattle.security.specs.Masks.{padded}
+use Rattle.tables.specs.Building.{Listed, isConflict, conflictsTo, conflictList, conflictsOf, exchangesOf, bytesOf, tablesOf}
+use Rattle.sequences.proofs.Filling.{getD-table, table-zeros}
+use Rattle.tables.proofs.Filling.{list-ends}
 use Rattle.tables.proofs.Groups.{kept-part}
-use Rattle.tables.proofs.Indexing.{getD-padded}
+use Rattle.sequences.proofs.Indexing.{getD-padded}
 use Rattle.tables.proofs.Places.{conflict-in}
 
 -- the later block first, or one twice
@@ -67,12 +70,12 @@ module _ (d : Description) where
 
   -- without pairs there are none, and the table is all zeros
   pub no-conflicts : length (d .pairs) ≡ 0 → conflictsOf d ≡ replicate 137 0
-  unfolding conflictsOf conflictList table
+  unfolding conflictsOf conflictList
   no-conflicts e =
       let unpaired : (u v : ℕ) → conflicts d u v ≡ false = λ u v. conflicts-are d u v ∙ none (conflictBy d u v) (d .pairs) e in
       let empty : conflictsTo d (length (d .blocks) * 16) ≡ [] = keep-none (isConflict d) (below (length (d .blocks) * 16)) (λ c _.
       and-fails (later-first c) (either-way c) (rw (unpaired (c / 16) (c % 16), unpaired (c % 16) (c / 16)) refl)) in
-      rw empty refl
+      rw empty (ap (λ l. 0 ∷ l) (table-zeros 136 _ (λ i. refl)))
     where
       none : {A : Type 0} (t : A → Bool) (l : List A) → length l ≡ 0 → any t l ≡ false
       none t [] e = refl

@@ -6,25 +6,28 @@ use native.Mathlib.Omega.{arith}
 use mathlib.Core.Path.{_≡_, refl, sym, ap, ap₂, _∙_}
 use mathlib.Core.Bool.{Bool, true, false, _&&_, _||_, cond}
 use mathlib.Core.List.{List, [], _∷_, _++_}
-use lib.Dec.{ltb, eqb, lit<}
+use lib.Dec.{ltb, eqb}
 use lib.ListN.{length, getD, take, replicate}
 use borrow.Author.Tests.{lt-ltb, le-ltb, eq-eqb, ne-eqb, ltb-true}
-use Rattle.description.specs.Format.{Description, namesBlock}
+use Rattle.description.specs.Format.{Description}
 use Rattle.description.specs.declared.workflow.Way.the-variants.{Reads, Writes}
 use Rattle.description.specs.Invariants.{WellFormed}
-use Rattle.security.specs.Soundness.{mayStand}
 use Rattle.security.proofs.Choices.{no-cloud}
+use Rattle.security.proofs.PermittedClouds.{mask-at, mask-stands}
 use Rattle.costs.specs.Terms.{blockTerm}
 use Rattle.costs.proofs.Charges.{datum-charge}
 use Rattle.options.specs.Representatives.{exchanges, storedOn}
 use Rattle.options.proofs.Exchanges.{exchanges-are}
 use Rattle.sequences.specs.Lists.{before}
-use Rattle.sequences.proofs.Tests.{both-pass, cond-ind}
-use Rattle.visit.specs.Tables.{tables, bit, exchange}
-use Rattle.tables.specs.Building.{bits, maskOf, masksOf, ownOf, only, ofPair, pairAt, exchangeAt, exchangesOf}
+use Rattle.sequences.proofs.Tests.{both-pass}
+use Rattle.sequences.specs.Bits.{bit}
+use Rattle.visit.specs.Tables.{tables, exchange}
+use Rattle.sequences.specs.Bits.{bits}
+use Rattle.security.specs.Masks.{maskOf}
+use Rattle.tables.specs.Building.{ownOf, only, ofPair, pairAt, exchangeAt, exchangesOf}
 use Rattle.tables.specs.Building.{betterBy, mayExchange, exchangeBy, exchangesBy, wordsOf, bytesOf, tablesOf}
-use Rattle.tables.proofs.Bits.{bit-bits, bits-same, bits-cut, bits-small}
-use Rattle.tables.proofs.Filling.{getD-table, getD-tableTo, tableTo-same}
+use Rattle.sequences.proofs.Bits.{bit-bits, bits-same, bits-cut}
+use Rattle.sequences.proofs.Filling.{getD-table, getD-tableTo, tableTo-same}
 use Rattle.tables.proofs.Places.{own-in, mask-in, last-in, other-last}
 use Rattle.tables.proofs.Paired.{first-of-pair, paired-datum}
 
@@ -67,20 +70,9 @@ own-at d b k h l =
     let rem : i % 8 ≡ k = omega arith in
     own-in d i low ∙ getD-table 128 (λ j. blockTerm d (j / 8) (j % 8)) i low ∙ ap₂ (blockTerm d) quo rem
 
--- where a block may stand
-pub mask-at : (d : Description) (last : List ℕ) (b k : ℕ) → b < 16 → b < length (d .blocks) → k < 8
-    → bit (getD (bytesOf d last) (81 + b) 0) k ≡ mayStand d b k
-unfolding masksOf maskOf
-mask-at d last b k low h l =
-    ap (λ (m : ℕ). bit m k) (mask-in d last b low ∙ getD-table 16 (maskOf d) b low ∙ simp (lt-ltb b (length (d .blocks)) h)) ∙
-    bit-bits (mayStand d b) 0 8 k l ∙ ap (mayStand d b) (zero-add k)
-
--- a mask has eight bits
-pub mask-low : (d : Description) (last : List ℕ) (b : ℕ) → b < 16 → getD (bytesOf d last) (81 + b) 0 < 256
-unfolding masksOf maskOf
-mask-low d last b low =
-    rw (mask-in d last b low, getD-table 16 (maskOf d) b low)
-    (cond-ind (λ (m : ℕ). m < 256) (namesBlock d b) (bits (mayStand d b) 0 8) 0 (λ _. bits-small (mayStand d b) 0 8) (λ _. lit< tt))
+-- a block's mask
+pub mask-is : (d : Description) (last : List ℕ) (b : ℕ) → b < 16 → getD (bytesOf d last) (81 + b) 0 ≡ maskOf d b
+mask-is d last b low = mask-in d last b low ∙ mask-at d b low
 
 module _ (d : Description) (wf : WellFormed d) where
   -- the pair of datum m
@@ -97,7 +89,7 @@ module _ (d : Description) (wf : WellFormed d) where
       let low : m < 16 = omega (arith, wf .limits .blocks) in
       let datum = paired-datum d wf m pair in
       let stored : (c : ℕ) → c < 8 → getD (wordsOf d) (m * 8 + c) 0 ≡ storedOn d m c = λ c l. own-at d m c low l ∙ datum-charge d m c datum in
-      ap₂ _&&_ (mask-at d last m k low there klow)
+      ap₂ _&&_ (ap (λ (x : ℕ). bit x k) (mask-is d last m low) ∙ mask-stands d m k there klow)
       (ap₂ (λ (x y : ℕ). before (x ∷ k ∷ []) (y ∷ h ∷ [])) (stored k klow) (stored h hlow)) ∙ sym (exchanges-are d m h k)
 
   -- nowhere but on declared clouds

@@ -7,7 +7,8 @@ use mathlib.Core.List.{List, [], _∷_, _++_, append-nil, append-assoc}
 use lib.ListN.{length, take, drop, set, replicate, length-append, length-replicate, replicate-append-replicate}
 use lib.Seq.{take-at, drop-at}
 use Rattle.description.specs.Format.{Description}
-use Rattle.tables.specs.Building.{ownOf, termsOf, endsOf, startsOf, masksOf, pairsOf, conflictsOf, wordsOf, bytesOf}
+use Rattle.security.specs.Masks.{masksOf}
+use Rattle.tables.specs.Building.{ownOf, termsOf, endsOf, startsOf, pairsOf, conflictsOf, wordsOf, bytesOf}
 use Rattle.tables.proofs.Places.{own-size, two-size, three-size, four-size}
 
 -- ---- a part of a list that is lent

@@ -1,11 +1,10 @@
-pub mod Bits
 pub mod Built
 pub mod Conflicting
 pub mod EdgeSides
+pub mod Ends
 pub mod Exchanging
 pub mod Filling
 pub mod Groups
-pub mod Indexing
 pub mod Laying
 pub mod Noting
 pub mod Ordering

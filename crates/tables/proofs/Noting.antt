@@ -15,9 +15,10 @@ use Rattle.description.specs.declared.workflow.Way.{Way}
 use Rattle.description.specs.Format.{Description, noEdge, edge, sameWay}
 use Rattle.sequences.specs.Lists.{keep}
 use Rattle.sequences.proofs.Parts.{keep-append}
-use Rattle.tables.specs.Building.{table, isOf, edgesOf, onlyOf, noted, onlyIn}
-use Rattle.tables.proofs.Filling.{length-table, getD-table}
-use Rattle.tables.proofs.Indexing.{zeros-at}
+use Rattle.sequences.specs.Arrays.{table}
+use Rattle.tables.specs.Building.{isOf, edgesOf, onlyOf, noted, onlyIn}
+use Rattle.sequences.proofs.Filling.{length-table, getD-table}
+use Rattle.sequences.proofs.Indexing.{zeros-at}
 
 -- one more edge is noted by what was noted before
 noted-more : (es : List Edge) (e : Edge) → noted (es ++ (e ∷ [])) ≡ cond (eqb (noted es) 0) (e .service + 1) 255

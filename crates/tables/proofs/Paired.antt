@@ -20,7 +20,7 @@ use Rattle.sequences.proofs.Tests.{cond-ind}
 use Rattle.visit.specs.Tables.{Paired}
 use Rattle.tables.specs.Building.{isOf, onlyOf, only, ofPair, pairAt, pairsOf, exchangesOf, bytesOf, tablesOf}
 use Rattle.tables.proofs.Conflicting.{list-few, count-is, conflict-small}
-use Rattle.tables.proofs.Filling.{getD-tableTo}
+use Rattle.sequences.proofs.Filling.{getD-tableTo}
 use Rattle.tables.proofs.Places.{pair-in}
 use Rattle.description.proofs.Named.{service-block}
 

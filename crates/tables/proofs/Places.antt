@@ -6,8 +6,10 @@ use mathlib.Core.List.{List, [], _∷_, _++_}
 use lib.ListN.{length, getD, take, drop, length-append, List·getD-append}
 use lib.Seq.{getD-append-add, take-at, drop-at}
 use Rattle.description.specs.Format.{Description}
-use Rattle.tables.specs.Building.{ownOf, termsOf, endsOf, startsOf, masksOf, pairsOf, conflictsOf, wordsOf, bytesOf}
-use Rattle.tables.proofs.Filling.{length-table}
+use Rattle.security.specs.Masks.{masksOf}
+use Rattle.security.proofs.PermittedClouds.{masks-size}
+use Rattle.tables.specs.Building.{ownOf, termsOf, endsOf, startsOf, pairsOf, conflictsOf, wordsOf, bytesOf}
+use Rattle.sequences.proofs.Filling.{length-table}
 
 -- ---- two lists
 
@@ -38,10 +40,6 @@ module _ (d : Description) where
   unfolding startsOf
   starts-size = length-table 17 _
 
-  masks-size : length (masksOf d) ≡ 16
-  unfolding masksOf
-  masks-size = length-table 16 _
-
   pairs-size : length (pairsOf d) ≡ 32
   unfolding pairsOf
   pairs-size = length-table 32 _
@@ -55,7 +53,7 @@ module _ (d : Description) where
   two-size = omega (arith, length-append (endsOf d) (startsOf d), ends-size, starts-size)
 
   pub three-size : length (endsOf d ++ startsOf d ++ masksOf d) ≡ 97
-  three-size = omega (arith, length-append (endsOf d ++ startsOf d) (masksOf d), two-size, masks-size)
+  three-size = omega (arith, length-append (endsOf d ++ startsOf d) (masksOf d), two-size, masks-size d)
 
   pub four-size : length (endsOf d ++ startsOf d ++ masksOf d ++ pairsOf d) ≡ 129
   four-size = omega (arith, length-append (endsOf d ++ startsOf d ++ masksOf d) (pairsOf d), three-size, pairs-size)

@@ -23,9 +23,10 @@ use Rattle.sequences.proofs.Agreeing.{any-agree}
 use Rattle.sequences.proofs.Members.{keep-members, below-members}
 use Rattle.visit.specs.Tables.{betterOn as betterBy, movesTo as movesBy, stands as standsBy}
 use Rattle.visit.proofs.Defined.{stands-where}
-use Rattle.tables.specs.Building.{onlyOf, only, ofPair, exchangesOf, tablesOf, padded}
+use Rattle.security.specs.Masks.{padded}
+use Rattle.tables.specs.Building.{onlyOf, only, ofPair, exchangesOf, tablesOf}
 use Rattle.tables.proofs.Exchanging.{exchange-bit}
-use Rattle.tables.proofs.Indexing.{getD-padded}
+use Rattle.sequences.proofs.Indexing.{getD-padded}
 use Rattle.tables.proofs.Paired.{first-of-pair, second-of-pair}
 
 -- of one writer and one reader, which are blocks, the numbers of the two; otherwise a number that is no block

@@ -16,8 +16,8 @@ use Rattle.sequences.specs.Lists.{any}
 use Rattle.sequences.proofs.Parts.{any-next}
 use Rattle.sequences.proofs.Tests.{both-pass, not-passed, told-by-one}
 use Rattle.tables.specs.Building.{servedAt, servedOf}
-use Rattle.tables.proofs.Filling.{length-table, getD-table}
-use Rattle.tables.proofs.Indexing.{zeros-at}
+use Rattle.sequences.proofs.Filling.{length-table, getD-table}
+use Rattle.sequences.proofs.Indexing.{zeros-at}
 
 pub served-at : (d : Description) (n u : ℕ) → n < 16 → u < 16 → eqb (getD (servedOf d) (n * 16 + u) 0) 1 ≡ any (serves n u) (d .edges)
 unfolding servedOf

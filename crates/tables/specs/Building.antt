@@ -3,51 +3,30 @@
 use Prim.Native.Nat.{ℕ, zero, suc, _+_, _-_, _*_, _/_, _%_, _≤_, _<_}
 use mathlib.Core.Path.{_≡_}
 use mathlib.Core.Bool.{Bool, not, _&&_, _||_, cond}
-use mathlib.Core.List.{List, [], _∷_, _++_, map}
+use mathlib.Core.List.{List, [], _∷_, _++_}
 use lib.Dec.{ltb, leb, eqb}
-use lib.ListN.{length, getD, replicate}
+use lib.ListN.{length, getD}
 use Rattle.description.specs.declared.workflow.Block.{Block}
 use Rattle.description.specs.declared.workflow.Cloud.{Cloud}
 use Rattle.description.specs.declared.workflow.Edge.{Edge}
 use Rattle.description.specs.declared.workflow.Way.{Way}
 use Rattle.description.specs.declared.workflow.Way.the-variants.{Reads, Writes}
-use Rattle.description.specs.Format.{Description, cloud, block, edge, namesBlock, sameWay}
-use Rattle.security.specs.Soundness.{mayStand}
+use Rattle.description.specs.Format.{Description, cloud, block, edge, sameWay}
+use Rattle.security.specs.Masks.{masksOf}
 use Rattle.security.specs.Conflicts.{serves, conflicts}
 use Rattle.costs.specs.Terms.{blockTerm, edgeTerm, serviceSide, datumSide}
 use Rattle.options.specs.Representatives.{exchanges}
+use Rattle.sequences.specs.Arrays.{table, tableTo}
+use Rattle.sequences.specs.Bits.{bit, bits}
 use Rattle.sequences.specs.Lists.{any, keep, below, before}
-use Rattle.visit.specs.Tables.{Tables, tables, masksFrom, pairsFrom, mostConflicts, bit}
+use Rattle.visit.specs.Tables.{Tables, tables, masksFrom, pairsFrom, mostConflicts}
 use Rattle.weights.specs.Weights.{termLimit}
-
--- an array of n entries
-unfoldable pub table : (n : ℕ) → (ℕ → ℕ) → List ℕ
-table n f = map f (below n)
-
--- an array of n entries, of which the first m are filled, and the others 0
-abbrev pub upTo : (m : ℕ) → (ℕ → ℕ) → ℕ → ℕ
-upTo m f i = cond (ltb i m) (f i) 0
-
-abbrev pub tableTo : (n m : ℕ) → (ℕ → ℕ) → List ℕ
-tableTo n m f = table n (upTo m f)
 
 -- every entry is below m
 abbrev pub AllBelow : ℕ → List ℕ → Type 0
 AllBelow m a = (i : ℕ) → getD a i 0 < m
 
 -- ---- blocks
-
--- the number whose lowest n bits say where t holds, from k on
-unfoldable pub bits : (ℕ → Bool) → (k n : ℕ) → ℕ
-bits t k zero = 0
-bits t k (suc n) = cond (t k) 1 0 + 2 * bits t (suc k) n
-
--- where block b may stand; 0 past the last block
-unfoldable pub maskOf : Description → ℕ → ℕ
-maskOf d b = cond (namesBlock d b) (bits (mayStand d b) 0 8) 0
-
-unfoldable pub masksOf : Description → List ℕ
-masksOf d = table 16 (maskOf d)
 
 -- what each block is charged on each cloud
 unfoldable pub ownOf : Description → List ℕ
@@ -116,9 +95,9 @@ abbrev pub pick : (a b : ℕ) → ℕ → ℕ
 pick a b zero = a
 pick a b (suc i) = b
 
--- its two ends
+-- its later end, and how far a packed placement is shifted from there to the other one: three bits for each block between
 abbrev pub endOf : Edge → ℕ → ℕ
-endOf e = pick (later e) (other e)
+endOf e = pick (later e) (3 * (later e - other e))
 
 unfoldable pub endsOf : Description → List ℕ
 endsOf d = tableTo 64 (length (d .edges) * 2) (λ i. endOf (edgeIn d (i / 2)) (i % 2))
@@ -272,7 +251,3 @@ bytesOf d exchanges = endsOf d ++ startsOf d ++ masksOf d ++ pairsOf d ++ confli
 
 unfoldable pub tablesOf : Description → Tables
 tablesOf d = tables (wordsOf d) (bytesOf d (exchangesOf d))
-
--- a placement of the blocks alone, as sixteen bytes
-abbrev pub padded : Description → List ℕ → List ℕ
-padded d q = q ++ replicate (16 - length (d .blocks)) 0

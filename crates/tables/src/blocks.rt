@@ -1,51 +1,24 @@
 // Where blocks may stand, and what they are charged there.
 ghost use mathlib.Core.Path.{_≡_};
-ghost use mathlib.Core.Bool.{cond};
-ghost use Prim.Native.Nat.{_+_, _*_, _<_};
 ghost use lib.ListN.{length, replicate};
 ghost use Rattle.description.specs.Meaning.{describes};
-ghost use Rattle.tables.specs.Building.{maskOf, masksOf, ownOf};
+ghost use Rattle.tables.specs.Building.{ownOf};
 use costs::terms::block_term;
 use description::words::MOST_CLOUDS;
 use description::words::Words;
 use description::workflow::block_count;
 use description::workflow::cloud_count;
-use security::soundness::may_stand;
+use security::masks::Masks;
+use security::masks::POSITIONS;
 
-// One more bit, below those of m.
-pub fn with_bit(m: u8, on: bool) -> u8
-    requires { ⌜ m < 128 ⌝ }
-    ensures { λ r. ⌜ r ≡ cond on 1 0 + 2 * m ⌝ }
+// The masks of the blocks, as they were worked out.
+pub fn fill_masks(masks: &Masks, a: &mut [u8])
+    requires { ⌜ (now a ≡ replicate 16 0) × (length (now masks) ≡ 16) ⌝ }
+    ensures { λ _. ⌜ now (a .exit) ≡ now (masks .entry) ⌝ }
 {
-    if on {
-        return 1 + 2 * m;
-    }
-    2 * m
-}
-
-// The clouds that block b may stand on, from the highest bit down.
-fn mask_of(w: &Words, b: usize) -> u8
-    requires { ⌜ b < length (describes (now w) .blocks) ⌝ }
-    ensures { λ r. ⌜ r ≡ maskOf (describes (now (w .entry))) b ⌝ }
-{
-    let clouds = cloud_count(w);
-    let mut m: u8 = 0;
     let mut i = 0;
-    while i < clouds {
-        m = with_bit(m, may_stand(w, b, clouds - 1 - i));
-        i += 1;
-    }
-    m
-}
-
-pub fn fill_masks(w: &Words, a: &mut [u8])
-    requires { ⌜ now a ≡ replicate 16 0 ⌝ }
-    ensures { λ _. ⌜ now (a .exit) ≡ masksOf (describes (now (w .entry))) ⌝ }
-{
-    let blocks = block_count(w);
-    let mut i = 0;
-    while i < blocks {
-        a[i] = mask_of(w, i);
+    while i < POSITIONS {
+        a[i] = masks[i];
         i += 1;
     }
 }

@@ -6,15 +6,8 @@ use mathlib.Core.Bool.{Bool, true, false}
 use mathlib.Core.List.{List, []}
 use lib.ListN.{getD}
 use borrow.Author.Tests.{lt-ltb, le-ltb, eq-eqb, ne-eqb}
-use Rattle.visit.specs.Tables.{Tables, tables, bit, pair, exchange, apart, movesTo, betterOn, stands, Paired, testsOf}
-
-pub bit-off : (m k : ℕ) → m / 2 ^ k % 2 ≡ 0 → bit m k ≡ false
-unfolding bit
-bit-off m k h = ne-eqb (m / 2 ^ k % 2) 1 (λ e. omega arith)
-
-pub bit-on : (m k : ℕ) → (m / 2 ^ k % 2 ≡ 0 → ⊥) → bit m k ≡ true
-unfolding bit
-bit-on m k h = eq-eqb (m / 2 ^ k % 2) 1 (omega arith)
+use Rattle.sequences.specs.Bits.{bit}
+use Rattle.visit.specs.Tables.{Tables, tables, pair, exchange, apart, movesTo, betterOn, stands, Paired, testsOf}
 
 module _ (t : Tables) (q : List ℕ) (m : ℕ) where
   -- block m is a datum that would do better at its other end

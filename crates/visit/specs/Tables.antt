@@ -1,6 +1,6 @@
 -- Tables of a problem: what each block adds to a placement's weight on each cloud, what each edge adds, where blocks may stand, which of
 -- them may not share a cloud, and which data would do better on which cloud. They lie one behind the other in lent words and lent bytes.
-use Prim.Native.Nat.{ℕ, _+_, _*_, _/_, _%_, _^_, _≤_, _<_}
+use Prim.Native.Nat.{ℕ, _+_, _-_, _*_, _/_, _%_, _≤_, _<_}
 use mathlib.Core.Path.{_≡_}
 use mathlib.Core.Bool.{Bool, false, not, cond}
 use mathlib.Core.List.{List, [], map}
@@ -9,7 +9,8 @@ use lib.Dec.{ltb, eqb}
 use lib.ListN.{getD}
 use Rattle.packing.specs.Packing.{digits}
 use Rattle.weights.specs.Weights.{termLimit}
-use Rattle.sequences.specs.Lists.{any, keep, below, sequences, sum, otherEnd}
+use Rattle.sequences.specs.Bits.{bit, bitChoices}
+use Rattle.sequences.specs.Lists.{any, below, sum, otherEnd}
 
 pub record Tables : Type 0 where
   pub words : List ℕ
@@ -48,10 +49,6 @@ exchangesFrom = 266
 abbrev pub mostConflicts : ℕ
 mostConflicts = 136
 
--- bit k of m
-unfoldable pub bit : ℕ → ℕ → Bool
-bit m k = eqb (m / 2 ^ k % 2) 1
-
 module _ (t : Tables) where
   -- what block b adds on cloud k, at b * 8 + k
   abbrev pub own : ℕ → ℕ
@@ -61,9 +58,13 @@ module _ (t : Tables) where
   abbrev pub term : ℕ → ℕ
   term i = getD (t .words) (termsFrom + i) 0
 
-  -- the later end of edge i at 2 * i, its other end at 2 * i + 1: blocks
+  -- the later end of edge i at 2 * i, a block; at 2 * i + 1 how far a packed placement is shifted from there to its other end, three bits a block
   abbrev pub end : ℕ → ℕ
   end i = getD (t .bytes) i 0
+
+  -- the other end of edge i
+  abbrev pub farEnd : ℕ → ℕ
+  farEnd i = end (2 * i) - end (2 * i + 1) / 3
 
   -- at k, how many edges have a later end below k; the edges stand in the order of their later ends
   abbrev pub start : ℕ → ℕ
@@ -90,20 +91,16 @@ module _ (t : Tables) where
 
   -- ---- placements of n blocks
 
-  -- block b may stand on cloud k
-  abbrev pub allowed : ℕ → ℕ → Bool
-  allowed b k = bit (mask b) k
-
-  -- all of them, in lexicographic order
+  -- all of them, in lexicographic order: one of the clouds whose bits its mask has set for each block, and nothing else says which
   unfoldable pub placements : (n : ℕ) → List (List ℕ)
-  placements n = sequences (map (λ b. keep (allowed b) (below 8)) (below n))
+  placements n = bitChoices (map mask (below n))
 
   -- what block b and edge i add at a placement
   abbrev pub ownTerm : List ℕ → ℕ → ℕ
   ownTerm q b = own (b * 8 + getD q b 0)
 
   abbrev pub edgeTerm : List ℕ → ℕ → ℕ
-  edgeTerm q i = term (i * 64 + getD q (end (2 * i)) 0 * 8 + getD q (end (2 * i + 1)) 0)
+  edgeTerm q i = term (i * 64 + getD q (end (2 * i)) 0 * 8 + getD q (farEnd i) 0)
 
   -- the weight of the first n blocks, with the edges between them
   unfoldable pub weight : ℕ → List ℕ → ℕ
@@ -146,8 +143,9 @@ module _ (t : Tables) where
   pub record Ready (n : ℕ) : Type 0 where
     pub inhabited : 0 < n
     pub few : n ≤ 16
-    -- the edges before start k have both ends below k, the later one first; those from there on have a later end of k or above
-    pub earlier : (k i : ℕ) → k ≤ n → i < start k → (end (2 * i) < k) × (end (2 * i + 1) ≤ end (2 * i))
+    -- the edges before start k have both ends below k, the later one first, and the shift between them is whole blocks; those from there on have
+    -- a later end of k or above
+    pub earlier : (k i : ℕ) → k ≤ n → i < start k → (end (2 * i) < k) × (end (2 * i + 1) ≡ 3 * (end (2 * i) - farEnd i))
     pub later : (k i : ℕ) → k < n → start k ≤ i → i < start (k + 1) → end (2 * i) ≡ k
     pub rising : (k : ℕ) → k < n → start k ≤ start (k + 1)
     pub none : start 0 ≡ 0

@@ -1,4 +1,3 @@
-pub mod Bits
 pub mod Branches
 pub mod Sums
 pub mod Turns

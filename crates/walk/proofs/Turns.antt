@@ -1,71 +1,116 @@
 -- What the walk does at a prefix: at its end a visit, above it a turn for each cloud.
-use Prim.Native.Nat.{ℕ, suc, _+_, _-_, _*_, _/_, _%_, _^_, _≤_, _<_}
-use native.Mathlib.Nat.{pow-suc, pow-le-pow-right, suc-mul, mul-le-mul-right, sub-le}
+use Prim.Native.Nat.{ℕ, suc, _+_, _-_, _*_, _^_, _≤_, _<_}
+use native.Mathlib.Nat.{pow-suc, pow-le-pow-right, suc-mul, mul-le-mul-right}
 use native.Mathlib.Numerals.{add-one}
 use native.Mathlib.Omega.{arith}
 use mathlib.Core.Path.{_≡_, refl, sym, ap, ap₂, _∙_}
-use mathlib.Core.Bool.{true, false}
-use mathlib.Core.List.{List, [], _∷_, foldl, foldl-append}
+use mathlib.Core.List.{List, [], _∷_, _++_, append-nil, append-assoc, foldl, foldl-append, map-map}
+use lib.Bits.{bitAnd}
+use lib.Count.{trailingZeros}
 use lib.ListN.{length}
-use Rattle.sequences.specs.Lists.{below}
+use Rattle.sequences.specs.Bits.{bit, setBits}
+use Rattle.sequences.specs.Lists.{below, sequences}
+use Rattle.sequences.proofs.Counting.{length-below}
+use Rattle.sequences.proofs.Numbers.{kept-most}
+use Rattle.sequences.proofs.SetBits.{lowest-and-rest, lowest-low, none-set}
 use Rattle.packing.specs.Packing.{digits}
 use Rattle.packing.proofs.Digits.{digits-none, digits-length, digits-snoc, pack-digits}
-use Rattle.visit.specs.Tables.{Tables, mask, allowed, weight, placements, Ready, Tests, testsOf, testsIn}
+use Rattle.visit.specs.Tables.{Tables, mask, weight, placements, Ready, Tests, testsOf, testsIn}
 use Rattle.visit.specs.Visits.{stateSize, counterCount, tally, see, keepRow}
 use Rattle.visit.proofs.Counters.{see-tally}
-use Rattle.visit.proofs.Rows.{bit-off, bit-on, tests-bytes}
+use Rattle.visit.proofs.Rows.{tests-bytes}
 use Rattle.visit.proofs.Defined.{placements-of, weight-of}
 use Rattle.walk.specs.Walking.{Sight, seeAt, seeAll, keepAt, keepAll}
-use Rattle.walk.specs.Turning.{Setting, Carried, completions, branches, seeThese, Under, Walked}
-use Rattle.walk.proofs.Bits.{bits-end}
-use Rattle.walk.proofs.Branches.{branches-next, branches-all, branches-rest, branch-shut, branch-open, completions-all, completions-none}
+use Rattle.walk.specs.Turning.{Setting, Carried, Room, completions, branches, seeThese, Under, Walked}
+use Rattle.walk.proofs.Branches.{branches-more, branches-all, branch-open, completions-all, completions-none}
 
 carried-none : (t : Tables) (n : ℕ) → Ready t n → Carried t 0 0 0
 carried-none t n r = rw (weight-of t 0 (digits 0 0), r .none)
 
 -- ---- what is counted
 
-pub room-less : (c n s : ℕ) → c < n → (n - c) * s ≡ (n - (c + 1)) * s + s
-room-less c n s h = let e : n - c ≡ suc (n - (c + 1)) = omega arith in rw e (suc-mul (n - (c + 1)) s)
-
-pub room-all : (n left : ℕ) → n ≤ 8 → 0 < left → (n - 0) * (counterCount * 8 ^ (left - 1)) ≤ counterCount * 8 ^ left
+room-all : (n left : ℕ) → n ≤ 8 → 0 < left → n * (counterCount * 8 ^ (left - 1)) ≤ counterCount * 8 ^ left
 room-all n left h l =
     let k : suc (left - 1) ≡ left = omega arith in
-    omega (arith, mul-le-mul-right (counterCount * 8 ^ (left - 1)) (sub-le n 0), mul-le-mul-right (counterCount * 8 ^ (left - 1)) h, pow-suc 8 (left - 1), ap (λ x. 8 ^ x) k)
+    omega (arith, mul-le-mul-right (counterCount * 8 ^ (left - 1)) h, pow-suc 8 (left - 1), ap (λ x. 8 ^ x) k)
 
 pub room-blocks : (n : ℕ) → n ≤ 16 → 8 ^ n ≤ 2 ^ 48
 room-blocks n h = omega (arith, pow-le-pow-right {n = 8} (omega arith) {i = n} {j = 16} h)
 
 module _ (S : Setting) where
-  -- ---- the loop over the clouds
+  -- ---- the loop over the set bits of a mask
 
-  pub none-yet : (s : Sight) (n : ℕ) (q : List ℕ) → s ≡ seeThese S s (branches S n q (below 0))
-  unfolding seeThese branches
-  none-yet s n q = refl
-
-  pub one-more : (s b r : Sight) (c n : ℕ) (q : List ℕ) → b ≡ seeThese S s (branches S n q (below c)) → r ≡ seeThese S b (branches S n q (c ∷ []))
-      → r ≡ seeThese S s (branches S n q (below (c + 1)))
+  one-more : (s b r : Sight) (done : List ℕ) (c n : ℕ) (q : List ℕ) → b ≡ seeThese S s (branches S n q done)
+      → r ≡ seeThese S b (branches S n q (c ∷ [])) → r ≡ seeThese S s (branches S n q (done ++ (c ∷ [])))
   unfolding seeThese
-  one-more s b r c n q e h =
+  one-more s b r done c n q e h =
       h ∙ ap (λ x. seeThese S x (branches S n q (c ∷ []))) e
-      ∙ sym (foldl-append (keepAt (S .table) (S .blocks)) s (branches S n q (below c)) (branches S n q (c ∷ [])))
-      ∙ ap (seeThese S s) (sym (branches-next S n q c) ∙ ap (λ x. branches S n q (below x)) (sym (add-one c)))
+      ∙ sym (foldl-append (keepAt (S .table) (S .blocks)) s (branches S n q done) (branches S n q (c ∷ [])))
+      ∙ ap (seeThese S s) (sym (branches-more S n q done c))
 
-  -- the loop ends where no bit of the mask is left
-  pub loop-walked : (left c place : ℕ) (s r : Sight) → 0 < left → c ≤ 8 → mask (S .table) (S .blocks - left) / 2 ^ c ≡ 0
-      → r ≡ seeThese S s (branches S (left - 1) (digits (S .blocks - left) place) (below c))
-      → tally (r .0) ≤ tally (s .0) + counterCount * 8 ^ left → Walked S s left (completions S left (digits (S .blocks - left) place)) r
-  loop-walked left c place s r l e z h m =
-      let at = S .blocks - left in
-      let q = digits at place in
-      let k : suc (left - 1) ≡ left = omega arith in
-      let eight : (8 - c) + c ≡ 8 = omega arith in
-      let shut : (k : ℕ) → c ≤ k → allowed (S .table) (length q) k ≡ false =
-      λ k h. rw (digits-length at place) (bit-off (mask (S .table) at) k (bits-end _ c k h z)) in
-      let all : branches S (left - 1) q (below c) ≡ completions S left q =
-      sym (branches-rest S (left - 1) q c (8 - c) shut) ∙ ap (λ x. branches S (left - 1) q (below x)) eight ∙ branches-all S (left - 1) q ∙
-      ap (λ x. completions S x q) k in
-      record { same = h ∙ ap (seeThese S s) all; counted = m }
+  -- what the loop keeps, with `left` blocks to follow the prefix: from s the clouds `done` had their turns, those of the bits of `rest` are
+  -- still to come, and v is what it has come to
+  pub record Going (left place rest : ℕ) (s v : Sight) : Type 0 where
+    pub done : List ℕ
+    pub all : setBits (mask (S .table) (S .blocks - left)) ≡ done ++ setBits rest
+    pub byte : rest < 256
+    pub seen : v ≡ seeThese S s (branches S (left - 1) (digits (S .blocks - left) place) done)
+    pub room : tally (v .0) + length (setBits rest) * (counterCount * 8 ^ (left - 1)) ≤ tally (s .0) + counterCount * 8 ^ left
+
+  module _ (left place : ℕ) (some : 0 < left) (s : Sight) where
+    abbrev prefix : List ℕ
+    prefix = digits (S .blocks - left) place
+
+    abbrev size : ℕ
+    size = counterCount * 8 ^ (left - 1)
+
+    pub going-begins : left ≤ S .blocks → Ready (S .table) (S .blocks) → Going left place (mask (S .table) (S .blocks - left)) s s
+    unfolding seeThese branches
+    going-begins fits ready =
+        let m = mask (S .table) (S .blocks - left) in
+        let few : length (setBits m) ≤ 8 = omega (arith, kept-most (bit m) (below 8), length-below 8) in
+        record {
+          done = [];
+          all = refl;
+          byte = ready .masked (S .blocks - left) (omega arith);
+          seen = refl;
+          room = omega (arith, room-all (length (setBits m)) left few some);
+        }
+
+    module _ (rest : ℕ) {v : Sight} (g : Going left place rest s v) where
+      -- a turn takes the room of one bit
+      fewer : (r : ℕ) {c : ℕ} → setBits rest ≡ c ∷ setBits r → length (setBits rest) * size ≡ length (setBits r) * size + size
+      fewer r e = ap (λ bits. length bits * size) e ∙ suc-mul (length (setBits r)) size
+
+      pub going-low : (rest ≡ 0 → ⊥) → trailingZeros 64 rest < 8
+      going-low more = lowest-low rest (g .byte) more
+
+      pub going-room : (rest ≡ 0 → ⊥) → Room left (s .0) → Room (left - 1) (v .0)
+      going-room more enough = omega (arith, enough, g .room, fewer (bitAnd rest (rest - 1)) (lowest-and-rest rest (g .byte) more))
+
+      pub going-next : (r : ℕ) (w : Sight) → setBits rest ≡ trailingZeros 64 rest ∷ setBits r → r < rest
+          → Walked S v (left - 1) (branches S (left - 1) prefix (trailingZeros 64 rest ∷ [])) w → Going left place r s w
+      going-next r w e less turned =
+          let c = trailingZeros 64 rest in
+          record {
+            done = g .done ++ (c ∷ []);
+            all = g .all ∙ ap (λ bits. g .done ++ bits) e ∙ sym (append-assoc (g .done) (c ∷ []) (setBits r));
+            byte = omega (arith, g .byte);
+            seen = one-more s v w (g .done) c (left - 1) prefix (g .seen) (turned .same);
+            room = omega (arith, turned .counted, g .room, fewer r e);
+          }
+
+      -- after the loop all of them were met
+      pub going-ends : rest ≡ 0 → Walked S s left (completions S left prefix) v
+      going-ends z =
+          let at = S .blocks - left in
+          let k : suc (left - 1) ≡ left = omega arith in
+          let none = ap setBits z ∙ none-set in
+          let whole : g .done ≡ setBits (mask (S .table) at) = sym (g .all ∙ ap (λ bits. g .done ++ bits) none ∙ append-nil (g .done)) in
+          let met : branches S (left - 1) prefix (g .done) ≡ completions S left prefix =
+          ap (branches S (left - 1) prefix) (whole ∙ ap (λ x. setBits (mask (S .table) x)) (sym (digits-length at place))) ∙
+          branches-all S (left - 1) prefix ∙ ap (λ x. completions S x prefix) k in
+          record { same = g .seen ∙ ap (seeThese S s) met; counted = omega (arith, g .room) }
 
   -- ---- the end
 
@@ -96,17 +141,8 @@ module _ (S : Setting) where
 
   -- ---- a turn
 
-  pub shut : (n k place c : ℕ) → mask (S .table) k / 2 ^ c % 2 ≡ 0 → (s : Sight) → Walked S s n (branches S n (digits k place) (c ∷ [])) s
-  unfolding seeThese
-  shut n k place c h s =
-      let f : allowed (S .table) (length (digits k place)) c ≡ false = rw (digits-length k place) (bit-off (mask (S .table) k) c h) in
-      record { same = rw (branch-shut S n (digits k place) c f); counted = omega arith }
-
-  opened : (n k place c : ℕ) → c < 8 → (mask (S .table) k / 2 ^ c % 2 ≡ 0 → ⊥)
-      → branches S n (digits k place) (c ∷ []) ≡ completions S n (digits (suc k) (place * 8 + c))
-  opened n k place c d h =
-      let f : allowed (S .table) (length (digits k place)) c ≡ true = rw (digits-length k place) (bit-on (mask (S .table) k) c h) in
-      branch-open S n (digits k place) c f ∙ ap (completions S n) (sym (digits-snoc k place c d))
+  opened : (n k place c : ℕ) → c < 8 → branches S n (digits k place) (c ∷ []) ≡ completions S n (digits (suc k) (place * 8 + c))
+  opened n k place c d = branch-open S n (digits k place) c ∙ ap (completions S n) (sym (digits-snoc k place c d))
 
   module _ (left place c w : ℕ) (l : 0 < left) (u : Under S (S .blocks - left) left w place) (h : c < 8) where
     pub under-next : (more : ℕ) → Carried (S .table) (S .blocks - left + 1) (place * 8 + c) more
@@ -120,12 +156,12 @@ module _ (S : Setting) where
           carried = rw k e;
         }
 
-    pub open-walked : (s r : Sight) → (mask (S .table) (S .blocks - left) / 2 ^ c % 2 ≡ 0 → ⊥)
+    pub open-walked : (s r : Sight)
         → Walked S s (left - 1) (completions S (left - 1) (digits (S .blocks - (left - 1)) (place * 8 + c))) r
         → Walked S s (left - 1) (branches S (left - 1) (digits (S .blocks - left) place) (c ∷ [])) r
-    open-walked s r n v =
+    open-walked s r v =
         let k : S .blocks - (left - 1) ≡ suc (S .blocks - left) = omega (arith, u .sized) in
-        rw (opened (left - 1) (S .blocks - left) place c h n) (rw k at v)
+        rw (opened (left - 1) (S .blocks - left) place c h) (rw k at v)
 
   -- ---- the whole
 
@@ -151,6 +187,7 @@ module _ (S : Setting) where
       let k : S .blocks - S .blocks ≡ 0 = omega arith in
       let none : digits (S .blocks - S .blocks) 0 ≡ [] = ap (λ x. digits x 0) k ∙ digits-none 0 in
       let all : completions S (S .blocks) (digits (S .blocks - S .blocks) 0) ≡ placements (S .table) (S .blocks) =
-      ap (completions S (S .blocks)) none ∙ completions-all S (S .blocks) ∙ sym (placements-of (S .table) (S .blocks)) in
+      ap (completions S (S .blocks)) none ∙ completions-all S (S .blocks) ∙
+      ap sequences (sym (map-map setBits (mask (S .table)) (below (S .blocks)))) ∙ sym (placements-of (S .table) (S .blocks)) in
       let e = v .same ∙ ap (seeThese S s) all in
       (ap (λ x. x .0) e ∙ seen-first (placements (S .table) (S .blocks)) s, ap (λ x. x .1) e)

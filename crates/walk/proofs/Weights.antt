@@ -2,14 +2,14 @@
 use Prim.Native.Nat.{ℕ, suc, _+_, _-_, _*_, _/_, _%_, _^_, _≤_, _<_}
 use native.Mathlib.Numerals.{add-one}
 use native.Mathlib.Omega.{arith}
-use mathlib.Core.Path.{_≡_, sym, ap, ap₂}
+use mathlib.Core.Path.{_≡_, sym, ap, ap₂, _∙_}
 use mathlib.Core.List.{List, [], _∷_, _++_, map}
 use lib.ListN.{length, getD, List·getD-append}
 use lib.Seq.{getD-at}
 use Rattle.sequences.specs.Lists.{below, sum}
 use Rattle.packing.specs.Packing.{digits}
 use Rattle.weights.specs.Weights.{termLimit}
-use Rattle.visit.specs.Tables.{Tables, termsFrom, own, term, end, ownTerm, edgeTerm, start, weight, Ready}
+use Rattle.visit.specs.Tables.{Tables, termsFrom, own, term, end, farEnd, ownTerm, edgeTerm, start, weight, Ready}
 use Rattle.visit.proofs.Defined.{weight-of}
 use Rattle.packing.proofs.Digits.{digits-length, digits-snoc, digit-below}
 use Rattle.walk.proofs.Sums.{sum-next, sum-below-most, sum-same}
@@ -42,7 +42,7 @@ module _ (t : Tables) where
       arith,
       sum-below-most (ownTerm t q) termLimit k (λ i. omega (arith, r .small (i * 8 + getD q i 0))),
       sum-below-most (edgeTerm t q) termLimit e
-          (λ i. omega (arith, r .small (termsFrom + (i * 64 + getD q (end t (2 * i)) 0 * 8 + getD q (end t (2 * i + 1)) 0)))),
+          (λ i. omega (arith, r .small (termsFrom + (i * 64 + getD q (end t (2 * i)) 0 * 8 + getD q (farEnd t i) 0)))),
     )
 
     pub weight-small : (k : ℕ) (q : List ℕ) → k ≤ n → weight t k q ≤ 48 * termLimit
@@ -57,13 +57,14 @@ module _ (t : Tables) where
         (sum-same (ownTerm t (q ++ (c ∷ []))) (ownTerm t q) k (λ i j. ap (λ x. own t (i * 8 + x)) (old i j)))
         (sum-same (edgeTerm t (q ++ (c ∷ []))) (edgeTerm t q) (start t k)
         (λ e j. let b = r .earlier k e h j in
-        ap₂ (λ x y. term t (e * 64 + x * 8 + y)) (old (end t (2 * e)) (b .0)) (old (end t (2 * e + 1)) (omega (arith, b .0, b .1)))))
+        ap₂ (λ x y. term t (e * 64 + x * 8 + y)) (old (end t (2 * e)) (b .0)) (old (farEnd t e) (omega (arith, b .0)))))
 
-    -- the later end of an edge between start k and start (k + 1), and its other end
-    pub ends-at : (k e : ℕ) → k < n → start t k ≤ e → e < start t (k + 1) → (end t (2 * e) ≡ k) × (end t (2 * e + 1) ≤ k)
+    -- the later end of an edge between start k and start (k + 1), its other end, and the shift from the one to the other
+    pub ends-at : (k e : ℕ) → k < n → start t k ≤ e → e < start t (k + 1)
+        → (end t (2 * e) ≡ k) × (farEnd t e ≤ k) × (end t (2 * e + 1) ≡ 3 * (k - farEnd t e))
     ends-at k e h l u =
         let a = r .later k e h l u in
-        (a, omega (arith, a, r .earlier (k + 1) e (omega arith) u .1))
+        (a, omega (arith, a), omega (arith, a, r .earlier (k + 1) e (omega arith) u .1))
 
     -- block k on cloud c too, before the edges
     pub part-next : (k c place : ℕ) → k < n → c < 8
@@ -75,12 +76,12 @@ module _ (t : Tables) where
 
     -- the term of an edge, as the walk reads it
     pub edge-next : (k e c place : ℕ) → k < n → c < 8 → start t k ≤ e → e < start t (k + 1)
-        → term t (e * 64 + c * 8 + (place * 8 + c) / 2 ^ (3 * (k - end t (2 * e + 1))) % 8)
+        → term t (e * 64 + c * 8 + (place * 8 + c) / 2 ^ (end t (2 * e + 1)) % 8)
         ≡ edgeTerm t (digits (k + 1) (place * 8 + c)) e
     edge-next k e c place h d l u =
         let en = ends-at k e h l u in
         let late : getD (digits (k + 1) (place * 8 + c)) (end t (2 * e)) 0 ≡ c =
         rw (en .0, add-one k, digits-snoc k place c d) (getD-at (digits k place) c [] 0 k (digits-length k place)) in
-        let soon : getD (digits (k + 1) (place * 8 + c)) (end t (2 * e + 1)) 0 ≡ (place * 8 + c) / 2 ^ (3 * (k - end t (2 * e + 1))) % 8 =
-        rw (add-one k) (digit-below k (end t (2 * e + 1)) (place * 8 + c) (omega (arith, en .1))) in
+        let soon : getD (digits (k + 1) (place * 8 + c)) (farEnd t e) 0 ≡ (place * 8 + c) / 2 ^ (end t (2 * e + 1)) % 8 =
+        rw (add-one k) (digit-below k (farEnd t e) (place * 8 + c) (omega (arith, en .1))) ∙ ap (λ x. (place * 8 + c) / 2 ^ x % 8) (sym (en .2)) in
         ap₂ (λ x y. term t (e * 64 + x * 8 + y)) (sym late) (sym soon)

@@ -3,9 +3,10 @@ use Prim.Native.Nat.{ℕ, suc, _+_, _*_, _^_, _≤_, _<_}
 use mathlib.Core.Path.{_≡_}
 use mathlib.Core.List.{List, [], _∷_, _++_, map, foldl}
 use lib.ListN.{length}
-use Rattle.sequences.specs.Lists.{keep, from, below, prefixed, sequences}
+use Rattle.sequences.specs.Bits.{setBits}
+use Rattle.sequences.specs.Lists.{from, prefixed, sequences}
 use Rattle.packing.specs.Packing.{digits}
-use Rattle.visit.specs.Tables.{Tables, tables, allowed, weight, Ready}
+use Rattle.visit.specs.Tables.{Tables, tables, mask, weight, Ready}
 use Rattle.visit.specs.Visits.{counterCount, countLimit, tally}
 use Rattle.walk.specs.Walking.{Sight, keepAt}
 
@@ -32,15 +33,15 @@ Room n state = tally state + counterCount * 8 ^ n ≤ countLimit
 module _ (S : Setting) where
   -- the clouds that each of n blocks from k on may stand on
   abbrev pub choices : (k n : ℕ) → List (List ℕ)
-  choices k n = map (λ b. keep (allowed (S .table) b) (below 8)) (from k n)
+  choices k n = map (λ b. setBits (mask (S .table) b)) (from k n)
 
   -- the placements that begin with q, in which n blocks follow
   unfoldable pub completions : ℕ → List ℕ → List (List ℕ)
   completions n q = map (λ p. q ++ p) (sequences (choices (length q) n))
 
-  -- the placements that begin with q, whose next block is on one of the clouds ks, where it may stand, and n blocks follow
+  -- the placements that begin with q, whose next block is on one of the clouds ks, and n blocks follow
   unfoldable pub branches : ℕ → List ℕ → List ℕ → List (List ℕ)
-  branches n q ks = map (λ p. q ++ p) (prefixed (sequences (choices (suc (length q)) n)) (keep (allowed (S .table) (length q)) ks))
+  branches n q ks = map (λ p. q ++ p) (prefixed (sequences (choices (suc (length q)) n)) ks)
 
   -- placements are seen, one after the other
   unfoldable pub seeThese : Sight → List (List ℕ) → Sight

@@ -1,9 +1,12 @@
 // A walk over all placements of a table of blocks, each met exactly once, in lexicographic order: each block is put on each cloud where it
 // may stand, and the weight of the blocks so far is carried down.
-ghost use Prim.Native.Nat.{_+_, _-_, _*_, _/_, _^_, _<_};
+ghost use Prim.Native.Nat.{_+_, _-_, _*_, _^_, _<_};
 ghost use mathlib.Core.Path.{_≡_};
+ghost use mathlib.Core.List.{_∷_};
+ghost use lib.Count.{trailingZeros};
 ghost use lib.ListN.{length};
-ghost use Rattle.visit.specs.Tables.{Ready, tables, start, mask};
+ghost use Rattle.sequences.specs.Bits.{setBits};
+ghost use Rattle.visit.specs.Tables.{Ready, tables, start};
 ghost use Rattle.visit.specs.Visits.{stateSize, Fresh};
 ghost use Rattle.walk.specs.Turning.{setting, Carried, Within, Room, Under, WalkedBelow, Turned};
 ghost use Rattle.walk.specs.Walking.{seeAll, keepAll};
@@ -37,15 +40,24 @@ fn step(
     let all = place * 8 + c;
     let mut sum = weight + words[at * 8 + x];
     for e in lo..hi {
-        let d = wide(bytes[2 * e + 1]);
-        let y = ((all >> (3 * (at - d))) % 8) as usize;
+        let shift = wide(bytes[2 * e + 1]);
+        let y = ((all >> shift) % 8) as usize;
         sum = sum + words[TERMS + (e * 64 + x * 8 + y)];
     }
     sum
 }
 
-// Meets the placements below a prefix, whose last `left` blocks have no cloud yet. What the turns of its next block share is loaded once:
-// behind their stores to `state` each would load it again.
+// The set bits of a mask but the lowest.
+fn without_lowest(rest: usize) -> usize
+    requires { ⌜ (0 < rest) × (rest < 256) ⌝ }
+    ensures { λ r. ⌜ setBits rest ≡ trailingZeros 64 rest ∷ setBits r ⌝ }
+    ensures { λ r. ⌜ r < rest ⌝ }
+{
+    rest & (rest - 1)
+}
+
+// Meets the placements below a prefix, whose last `left` blocks have no cloud yet. It goes from set bit to set bit of the next block's mask.
+// What the turns of that block share is loaded once: behind their stores to `state` each would load it again.
 fn walk(
     words: &TableWords,
     bytes: &TableBytes,
@@ -65,9 +77,9 @@ fn walk(
     let at = blocks - left;
     let lo = wide(bytes[STARTS + at]);
     let hi = wide(bytes[STARTS + (at + 1)]);
-    let mut rest = bytes[MASKS + at];
-    let mut c: u64 = 0;
+    let mut rest = wide(bytes[MASKS + at]);
     while rest != 0 {
+        let c = usize::trailing_zeros(rest) as u64;
         turn(
             words,
             bytes,
@@ -76,18 +88,16 @@ fn walk(
             weight,
             place,
             c,
-            rest,
             lo,
             hi,
             state,
             kept,
         );
-        rest = rest / 2;
-        c += 1;
+        rest = without_lowest(rest);
     }
 }
 
-// Meets those of them whose next block is on cloud c: none, where it may not stand there. `rest` are the mask's bits from c on.
+// Meets those of them whose next block is on cloud c.
 fn turn(
     words: &TableWords,
     bytes: &TableBytes,
@@ -96,7 +106,6 @@ fn turn(
     weight: u64,
     place: u64,
     c: u64,
-    rest: u8,
     lo: usize,
     hi: usize,
     state: &mut State,
@@ -105,14 +114,10 @@ fn turn(
     requires { ⌜ length (now state) ≡ stateSize ⌝ }
     requires { ⌜ Under (setting (now words) (now bytes) blocks) (blocks - left) left weight place ⌝ }
     requires { ⌜ (0 < left) × (c < 8) × Room (left - 1) (now state) ⌝ }
-    requires { ⌜ rest ≡ mask (tables (now words) (now bytes)) (blocks - left) / 2 ^ c ⌝ }
     requires { ⌜ (lo ≡ start (tables (now words) (now bytes)) (blocks - left)) × (hi ≡ start (tables (now words) (now bytes)) (blocks - left + 1)) ⌝ }
     ensures { λ _. ⌜ length (now (state .exit)) ≡ stateSize ⌝ }
     ensures { λ _. ⌜ Turned (setting (now (words .entry)) (now (bytes .entry)) blocks) (now (state .entry), now (kept .entry)) (blocks - left) (left - 1) place c (now (state .exit), now (kept .exit)) ⌝ }
 {
-    if rest % 2 == 0 {
-        return;
-    }
     let more = step(words, bytes, blocks - left, weight, place, c, lo, hi);
     let next = place * 8 + c;
     if left == 1 {

@@ -8,6 +8,7 @@ ghost use lib.ListN.{length, drop, replicate};
 ghost use Rattle.sequences.specs.Results.{ok};
 ghost use Rattle.description.specs.Meaning.{describes};
 ghost use Rattle.security.specs.Accepted.{Admitted};
+ghost use Rattle.security.specs.Masks.{masksOf};
 ghost use Rattle.security.specs.Soundness.{count};
 ghost use Rattle.survey.specs.Rows.{rows as rowsOf};
 ghost use Rattle.survey.specs.RowWords.{keysNeeded};
@@ -20,8 +21,10 @@ use description::words::WORDS;
 use description::words::Words;
 use description::workflow::Refusal;
 use description::workflow::block_count;
-use judging::acceptance::accept;
+use judging::acceptance::accept_with_masks;
 use judging::answers::Admission;
+use security::masks::Masks;
+use security::masks::POSITIONS;
 
 // Lent memory is too short; the place says how much is needed.
 const SHORT_BUFFER: u8 = 16;
@@ -54,29 +57,35 @@ fn capacity(rows: &[u64], scratch: &[u64]) -> usize
 
 // How many rows there are, where that is more than there is room for; otherwise 0. There are no more rows than candidates: only where room
 // is short for those a walk has to count first.
-fn missing(w: &Words, candidates: u64, room: usize) -> usize
+fn missing(w: &Words, masks: &Masks, candidates: u64, room: usize) -> usize
     requires { ⌜ Admitted (describes (now w)) ⌝ }
-    requires { ⌜ candidates ≡ count (describes (now w)) ⌝ }
+    requires { ⌜ (candidates ≡ count (describes (now w))) × (now masks ≡ masksOf (describes (now w))) ⌝ }
     ensures { λ r. ⌜ r ≡ cond (leb (length (rowsOf (describes (now (w .entry))))) room) 0 (length (rowsOf (describes (now (w .entry))))) ⌝ }
 {
     if candidates <= room as u64 {
         return 0;
     }
-    let figures = survey::count_all(w, candidates);
+    let figures = survey::count_all(w, masks, candidates);
     let rows = figures.options as usize;
     if rows <= room { 0 } else { rows }
 }
 
 // The walk leaves the rows' keys in the scratch; there they are sorted, with the words for the rows as the spare ones of the sort.
-fn list_fitting(w: &Words, candidates: u64, rows: &mut [u64], scratch: &mut [u64]) -> Extent
+fn list_fitting(
+    w: &Words,
+    masks: &Masks,
+    candidates: u64,
+    rows: &mut [u64],
+    scratch: &mut [u64],
+) -> Extent
     requires { ⌜ Admitted (describes (now w)) ⌝ }
-    requires { ⌜ candidates ≡ count (describes (now w)) ⌝ }
+    requires { ⌜ (candidates ≡ count (describes (now w))) × (now masks ≡ masksOf (describes (now w))) ⌝ }
     requires { ⌜ (needed (describes (now w)) ≤ length (now rows)) × (keysNeeded (describes (now w)) ≤ length (now scratch)) ⌝ }
     ensures { λ r. ⌜ (r .rows ≡ length (rowsOf (describes (now (w .entry))))) × (r .blocks ≡ length (describes (now (w .entry)) .blocks)) ⌝ }
     ensures { λ _. ⌜ now (rows .exit) ≡ listed (describes (now (w .entry))) ++ drop (needed (describes (now (w .entry)))) (now (rows .entry)) ⌝ }
     ensures { λ _. ⌜ now (scratch .exit) ≡ replicate (keysNeeded (describes (now (w .entry)))) 0 ++ drop (keysNeeded (describes (now (w .entry)))) (now (scratch .entry)) ⌝ }
 {
-    let count = survey::keep_rows(w, candidates, scratch);
+    let count = survey::keep_rows(w, masks, candidates, scratch);
     sorting::sort_rows(scratch, rows, count);
     bill_rows(w, scratch, rows, count);
     Extent {
@@ -85,21 +94,27 @@ fn list_fitting(w: &Words, candidates: u64, rows: &mut [u64], scratch: &mut [u64
     }
 }
 
-fn list_accepted(w: &Words, candidates: u64, rows: &mut [u64], scratch: &mut [u64]) -> Listed
+fn list_accepted(
+    w: &Words,
+    masks: &Masks,
+    candidates: u64,
+    rows: &mut [u64],
+    scratch: &mut [u64],
+) -> Listed
     requires { ⌜ Admitted (describes (now w)) ⌝ }
-    requires { ⌜ candidates ≡ count (describes (now w)) ⌝ }
+    requires { ⌜ (candidates ≡ count (describes (now w))) × (now masks ≡ masksOf (describes (now w))) ⌝ }
     ensures { λ r. ⌜ listAnswer r ≡ listedIn (describes (now (w .entry))) (capacity (length (now (rows .entry))) (length (now (scratch .entry)))) ⌝ }
     ensures { λ _. ⌜ now (rows .exit) ≡ replaced (ok (describes (now (w .entry)))) (capacity (length (now (rows .entry))) (length (now (scratch .entry)))) listed (now (rows .entry)) ⌝ }
     ensures { λ _. ⌜ now (scratch .exit) ≡ replaced (ok (describes (now (w .entry)))) (capacity (length (now (rows .entry))) (length (now (scratch .entry)))) cleared (now (scratch .entry)) ⌝ }
 {
-    let lacking = missing(w, candidates, capacity(rows, scratch));
+    let lacking = missing(w, masks, candidates, capacity(rows, scratch));
     if lacking != 0 {
         return Listed::Refused(Refusal {
             number: SHORT_BUFFER,
             place: lacking * ROW_WORDS,
         });
     }
-    Listed::Rows(list_fitting(w, candidates, rows, scratch))
+    Listed::Rows(list_fitting(w, masks, candidates, rows, scratch))
 }
 
 // List: all rows of a description in lent words, five each, and two each of scratch. Nothing is written where the description is refused
@@ -110,9 +125,10 @@ pub fn list(description: &[u8], rows: &mut [u64], scratch: &mut [u64]) -> Listed
     ensures { λ _. ⌜ now (scratch .exit) ≡ scratchAfter (now (description .entry)) (capacity (length (now (rows .entry))) (length (now (scratch .entry)))) (now (scratch .entry)) ⌝ }
 {
     let mut w = [0u32; WORDS];
-    let admission = accept(description, &mut w);
+    let mut masks = [0u8; POSITIONS];
+    let admission = accept_with_masks(description, &mut w, &mut masks);
     match admission {
-        Admission::Accepted(candidates) => list_accepted(&w, candidates, rows, scratch),
+        Admission::Accepted(candidates) => list_accepted(&w, &masks, candidates, rows, scratch),
         Admission::Refused(r) => Listed::Refused(r),
     }
 }

@@ -10,6 +10,7 @@ use reference::rules::{Placement, Priced, Row};
 
 use crate::generate::Kind;
 use crate::lent::{Checked, Lent};
+use crate::mask;
 use crate::operands::{cursor, placement, room, rooms};
 use crate::picture::{kind_of, room_seen, seen_in};
 use crate::tally::{Call, Tally};
@@ -70,6 +71,7 @@ impl<'a> Input<'a> {
         let walks = self.prepare();
         let times = if self.described.is_ok() { 4 } else { 1 };
         self.read()?;
+        self.masks()?;
         for _ in 0..times {
             self.judge()?;
             self.transfers()?;
@@ -160,6 +162,26 @@ impl<'a> Input<'a> {
             reference,
         };
         self.settle(&case, &[&counts])
+    }
+
+    fn masks(&mut self) -> Agreed {
+        let mut masks = Lent::<u8>::new(self.random, 16);
+        let mut shown = Vec::new();
+        let reference = self.described().map(|described| {
+            let due = described.masks();
+            masks.expect(&due);
+            shown = mask::seen_in(described, &due);
+            mask::kind_of(described, &due)
+        });
+        self.show(&shown);
+        let library = engine::masks(self.text.get(), masks.lend_array());
+        let case = Case {
+            call: Call::Masks,
+            operands: &(),
+            library,
+            reference,
+        };
+        self.settle(&case, &[&masks])
     }
 
     fn judge(&mut self) -> Agreed {

@@ -78,7 +78,7 @@ fn pipe(random: &mut Random) -> Vec<u8> {
 }
 
 fn boundary(random: &mut Random) -> Vec<u8> {
-    match random.below(10) {
+    match random.below(12) {
         0 => without_some(random),
         1 => many_clouds(random),
         2 => many_blocks(random),
@@ -86,6 +86,8 @@ fn boundary(random: &mut Random) -> Vec<u8> {
         4 | 5 => high_levels(random),
         6 => many_pairs(random),
         7 => odd_pairs(random),
+        8 => mixed_levels(random),
+        9 => two_of_eight(random),
         _ => many_candidates(random),
     }
 }
@@ -239,6 +241,39 @@ fn many_candidates(random: &mut Random) -> Vec<u8> {
     text.end()
 }
 
+/// Five clouds or more, so that those that a block may use lie apart, and up to sixteen blocks.
+fn mixed_levels(random: &mut Random) -> Vec<u8> {
+    let plan = Plan {
+        pins: random.below(4),
+        candidates: random.pick(&[64, 256]),
+        highest: random.pick(&[1, 1, 2, 3, 15]),
+        ..calm_plan(5 + random.below(4), 1 + random.below(16))
+    };
+    Text::new(random).by(&plan)
+}
+
+/// Sixteen blocks for which two of eight clouds are high enough: 65,536 candidates, or too many
+/// with one block that may stand anywhere.
+fn two_of_eight(random: &mut Random) -> Vec<u8> {
+    let mut levels = [1, 1, 0, 0, 0, 0, 0, 0];
+    random.shuffle(&mut levels);
+    let last = u8::from(!random.one_in(4));
+    let mut text = Text::new(random);
+    for level in levels {
+        text.cloud(level);
+    }
+    for _ in 0..7 {
+        text.service(1, 15);
+        text.datum(1);
+    }
+    text.service(1, 15);
+    text.datum(last);
+    for way in [READS, WRITES, READS, WRITES] {
+        text.edge(way, false);
+    }
+    text.end()
+}
+
 fn damaged(random: &mut Random) -> Vec<u8> {
     let mut text = match random.below(8) {
         0 => boundary(random),
@@ -334,6 +369,7 @@ fn garbage(random: &mut Random) -> Vec<u8> {
 #[cfg(test)]
 mod tests {
     use super::*;
+    use crate::mask::has_gap;
     use reference::description::read;
 
     /// What the reference says of so many texts: how many clouds, blocks, edges, candidates and
@@ -426,6 +462,25 @@ mod tests {
             assert!(seen.iter().flatten().any(|counts| counts[3] == exactly));
         }
         assert!(seen.contains(&Err(12)));
+    }
+
+    #[test]
+    fn clouds_lie_apart() {
+        let mut random = Random::new(1);
+        let mut masks = || read(&mixed_levels(&mut random)).map(|described| described.masks());
+        let seen: Vec<[u8; 16]> = (0..500).filter_map(|_| masks().ok()).collect();
+        let apart = seen.as_flattened().iter().filter(|&&mask| has_gap(mask));
+        assert!(apart.count() > 500);
+        assert!(seen.as_flattened().contains(&0xFF));
+    }
+
+    #[test]
+    fn two_clouds_of_eight_make_as_many_candidates_as_there_may_be() {
+        let seen = seen(two_of_eight, 100);
+        assert!(seen.contains(&Err(12)));
+        let counts: Vec<_> = seen.iter().flatten().collect();
+        assert!(counts.len() > 50);
+        assert!(counts.iter().all(|counts| counts[3] == 65_536));
     }
 
     #[test]

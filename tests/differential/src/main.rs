@@ -12,6 +12,7 @@
 mod compare;
 mod generate;
 mod lent;
+mod mask;
 mod operands;
 mod picture;
 mod tally;

@@ -9,6 +9,7 @@ use crate::generate::Kind;
 #[derive(Clone, Copy, PartialEq, Eq, PartialOrd, Ord, Debug)]
 pub enum Call {
     Read,
+    Masks,
     Judge,
     Transfers,
     Picture,
@@ -19,8 +20,9 @@ pub enum Call {
 }
 
 impl Call {
-    const ALL: [Call; 8] = [
+    const ALL: [Call; 9] = [
         Call::Read,
+        Call::Masks,
         Call::Judge,
         Call::Transfers,
         Call::Picture,
@@ -33,7 +35,7 @@ impl Call {
     /// The numbers that the call can refuse with.
     fn numbers(self) -> impl Iterator<Item = u8> {
         let (range, more): (RangeInclusive<u8>, _) = match self {
-            Call::Read | Call::Census | Call::Draw => (1..=12, None),
+            Call::Read | Call::Masks | Call::Census | Call::Draw => (1..=12, None),
             Call::Judge | Call::PictureSize => (1..=15, Some(17)),
             Call::Transfers | Call::Picture => (1..=17, None),
             Call::List => (1..=12, Some(16)),

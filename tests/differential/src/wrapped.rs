@@ -35,6 +35,7 @@ fn first_difference(
     let same_length = |row: &panel::Row| row.clouds().len() == described.blocks.len();
     let parts = [
         ("counts", same_counts(wrapped, described)),
+        ("masks", wrapped.masks() == described.masks()),
         (
             "census",
             wrapped.census() == counted(described.census(rows)),

@@ -22,6 +22,18 @@ pub const ROW_WORDS: usize = 5;
 pub const SCRATCH_WORDS: usize = 2;
 
 impl Description {
+    /// The clouds that each block may use: bit k of byte b is set where block b may stand on cloud
+    /// k, and none behind the last block.
+    pub fn masks(&self) -> [u8; 16] {
+        let mut masks = [0; 16];
+        for (mask, block) in masks.iter_mut().zip(&self.blocks) {
+            for cloud in 0..self.clouds.len() {
+                *mask |= u8::from(self.may_stand(block, cloud)) << cloud;
+            }
+        }
+        masks
+    }
+
     /// Refuses with 13, 14, 15 or 17, each tested as a whole before the next.
     pub fn judge(&self, placement: &Placement) -> Result<(), Refusal> {
         let misplaced = (0..placement.len()).find(|&at| !self.fits(placement, at));

@@ -56,6 +56,7 @@ fn answer(letter: u8, text: &[u8], operands: &[u8], lists: &mut Lists) -> Result
             let [clouds, blocks] = [described.clouds.len(), described.blocks.len()];
             format!("accepted {clouds} {blocks} {}", described.edges.len())
         }
+        b'M' => masks_line(&described),
         b'J' => {
             described.judge(&placement(operands))?;
             "secure".into()
@@ -81,6 +82,10 @@ fn answer(letter: u8, text: &[u8], operands: &[u8], lists: &mut Lists) -> Result
         }
         _ => drawn(rows(lists, text, &described), operands),
     })
+}
+
+fn masks_line(described: &Description) -> String {
+    with_buffer("masks".into(), &described.masks(), 16)
 }
 
 fn drawn(rows: &[Row], operands: &[u8]) -> String {
@@ -124,7 +129,7 @@ fn the_stored_cases_are_answered_alike() {
         let length = number(take(&mut rest, 2));
         let text = take(&mut rest, length);
         let width = match letter {
-            b'R' | b'C' => 0,
+            b'R' | b'M' | b'C' => 0,
             b'J' | b'B' => 16,
             b'T' | b'P' => 18,
             b'D' => 25,
@@ -154,6 +159,18 @@ fn the_examples_are_listed_as_stored() {
         let (rows, blocks) = (described.rows(), described.blocks.len());
         let lines: String = rows.iter().map(|row| shown(row, blocks) + "\n").collect();
         assert_eq!(format!("{lines}options {}\n", rows.len()), list);
+    }
+}
+
+#[test]
+fn the_masks_of_the_examples() {
+    for (text, line) in [
+        (INTERVIEW, "masks 02030303030000000000000000000000"),
+        (SECOND, "masks 03020202030203030202000000000000"),
+        (APART, "masks 02030303030000000000000000000000"),
+    ] {
+        let described = read(text).expect("the description is accepted");
+        assert_eq!(masks_line(&described), line);
     }
 }
 

@@ -6,7 +6,7 @@ use Rattle.description.specs.Bytes.{Bytes}
 use Rattle.description.specs.Meaning.{describes}
 use Rattle.security.specs.Soundness.{read}
 use Rattle.security.proofs.Accepted.{read-admitted}
-use Rattle.judging.proofs.Admissions.{Counted, is-accepted, is-refused}
+use Rattle.judging.proofs.Admissions.{Counted, is-accepted, is-refused, masks-accepted}
 use Rattle.sequences.specs.Results.{Result, ok, andThen}
 use Rattle.survey.specs.declared.Row.{Row}
 use Rattle.survey.specs.declared.Cursor.{Cursor}
@@ -17,29 +17,31 @@ use borrow.Author.Needs.{needs}
 use Rattle.lister.proofs.draw.Statement.{statement}
 use Rattle.lister.proofs.draw.Tie as tie
 
-accept-requires : tie.Need-accept-requires
-accept-requires c κs = search needs
+accept-with-masks-requires : tie.Need-accept-with-masks-requires
+accept-with-masks-requires c κs = search needs
 
 enum-known-admission : tie.Need-enum-known-admission
 enum-known-admission c = search needs
 
 -- what was accepted, and how many candidates it has
 counted : (c : tie.After-admission) → let accept = c .before .before in
-    Counted (read (accept .before .before .before .args .description .now)) (describes (accept .accept .last .1 .0)) (c .admission .given .0 .0)
+    Counted (read (accept .before .before .before .before .args .description .now)) (describes (accept .accept-with-masks .last .1 .0))
+    (c .admission .given .0 .0)
 counted c =
     let accept = c .before .before in
     let told = c .admission .given in
-    let s = accept .before .before .before .args .description .now in
-    is-accepted (describes (accept .accept .last .1 .0)) (read s) (accept .accept .ensures .0) (told .0 .0) (told .1)
+    let s = accept .before .before .before .before .args .description .now in
+    is-accepted (describes (accept .accept-with-masks .last .1 .0)) (read s) (accept .accept-with-masks .ensures .0) (told .0 .0) (told .1)
 
 row-past-requires : tie.Need-row-past-requires
 row-past-requires c κs =
-    let admitted = counted (c .before .before) in
-    let accept = c .before .before .before .before in
-    let start = accept .before .before in
+    let admitted = counted (c .before .before .before) in
+    let accept = c .before .before .before .before .before in
+    let start = accept .before .before .before in
     let s = start .before .args .description .now in
+    let masks = masks-accepted _ (admitted .accepted) (accept .accept-with-masks .ensures .1 .1) in
     let bytes : Bytes s = λ i. start .shared-slice-known .given i .fits in
-    (read-admitted s (describes (accept .accept .last .1 .0)) (admitted .accepted) bytes, admitted .number)
+    (read-admitted s (describes (accept .accept-with-masks .last .1 .0)) (admitted .accepted) bytes, (admitted .number, masks))
 
 found-or-finished-requires : tie.Need-found-or-finished-requires
 found-or-finished-requires c κs = search needs
@@ -57,8 +59,8 @@ called cursor r = andThen r (λ d. ok (draw d cursor))
 returns : tie.Need-returns
 unfolding drawCall
 returns c =
-    let admission = c .before .before .before .before in
-    let cursor = admission .before .before .before .before .before .args .cursor in
+    let admission = c .before .before .before .before .before in
+    let cursor = admission .before .before .before .before .before .before .args .cursor in
     let same = sym (ap (called cursor) (counted admission .accepted)) in
     let next = c .before .row-past in
     let told = c .found-or-finished in
@@ -69,8 +71,9 @@ unfolding drawCall
 returns-2 c =
     let told = c .before .before .admission2 .given in
     let accept = c .before .before .before .before in
-    let a = accept .before .before .before .args in
-    let refusal = is-refused (describes (accept .accept .last .1 .0)) (read (a .description .now)) (accept .accept .ensures .0) (told .0 .0) (told .1) in
+    let a = accept .before .before .before .before .args in
+    let read-in = accept .accept-with-masks in
+    let refusal = is-refused (describes (read-in .last .1 .0)) (read (a .description .now)) (read-in .ensures .0) (told .0 .0) (told .1) in
     let same = sym (ap (called (a .cursor)) refusal) in
     (ap drawAnswer (c .refused .ensures) ∙ same, ap (λ x. x .row) (c .refused .ensures) ∙ ap rowBeside same)
 
@@ -78,7 +81,7 @@ pub draw-spec : {M : Type 1} → statement M
 draw-spec =
     tie.close
     (tie.spec
-    accept-requires
+    accept-with-masks-requires
     enum-known-admission
     row-past-requires
     found-or-finished-requires

@@ -19,20 +19,20 @@ walk-candidates-requires c κs =
     let s = counting .before in
     (s .pre .0, (s .pre .1, starts (counting .to-count .ensures)))
 
-array-read-t12 : tie.Need-array-read-t12
-array-read-t12 c = search needs
+array-read-t13 : tie.Need-array-read-t13
+array-read-t13 c = search needs
 
-array-read-t15 : tie.Need-array-read-t15
-array-read-t15 c = search needs
+array-read-t16 : tie.Need-array-read-t16
+array-read-t16 c = search needs
 
-array-read-t18 : tie.Need-array-read-t18
-array-read-t18 c = search needs
+array-read-t19 : tie.Need-array-read-t19
+array-read-t19 c = search needs
 
-array-read-t21 : tie.Need-array-read-t21
-array-read-t21 c = search needs
+array-read-t22 : tie.Need-array-read-t22
+array-read-t22 c = search needs
 
-array-read-t24 : tie.Need-array-read-t24
-array-read-t24 c = search needs
+array-read-t25 : tie.Need-array-read-t25
+array-read-t25 c = search needs
 
 returns : tie.Need-returns
 returns c =
@@ -41,7 +41,7 @@ returns c =
     let s = counting .before in
     let d = describes (s .args .w .now) in
     let after = seen .ensures .0 ∙ ap (seenOf d) (counting .to-count .ensures) in
-    census-is d (s .args .candidates) (seen .last .1 .1 .0) (s .pre .1) (counted-by d (s .pre .0) (seen .last .1 .1 .0) after)
+    census-is d (s .args .candidates) (seen .last .1 .1 .1 .0) (s .pre .1 .0) (counted-by d (s .pre .0) (seen .last .1 .1 .1 .0) after)
 
 pub count-all-spec : {M : Type 1} → statement M
 count-all-spec =
@@ -50,9 +50,9 @@ count-all-spec =
     to-count-requires
     slice-aggregate-walk-candidates
     walk-candidates-requires
-    array-read-t12
-    array-read-t15
-    array-read-t18
-    array-read-t21
-    array-read-t24
+    array-read-t13
+    array-read-t16
+    array-read-t19
+    array-read-t22
+    array-read-t25
     returns)

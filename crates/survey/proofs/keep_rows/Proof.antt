@@ -32,7 +32,7 @@ returns c =
     let d = describes (s .args .w .now) in
     let asked = counting .to-count .ensures in
     let keys = s .args .keys .now in (
-      counted-by d (s .pre .0) (seen .last .1 .1 .0) (seen .ensures .0 ∙ ap (seenOf d) asked) .options ∙ sym (options-number d),
+      counted-by d (s .pre .0) (seen .last .1 .1 .1 .0) (seen .ensures .0 ∙ ap (seenOf d) asked) .options ∙ sym (options-number d),
       seen .ensures .1 ∙ ap (λ state. keptOf d state keys) asked ∙ walk-keeps d (s .pre .0) keys (s .pre .1 .1),
     )
 

@@ -43,7 +43,7 @@ zero-row-requires c κs = search needs
 -- what the walk kept
 kept : (c : tie.After-walk-candidates)
     → let a = c .before .before .before .before .before .args in
-    KeptRow (describes (a .w .now)) (draw (describes (a .w .now)) (a .cursor)) (c .walk-candidates .last .1 .1 .0)
+    KeptRow (describes (a .w .now)) (draw (describes (a .w .now)) (a .cursor)) (c .walk-candidates .last .1 .1 .1 .0)
 kept c =
     let drawing = c .before .before .before in
     let blocks = drawing .before .block-count in
@@ -51,14 +51,14 @@ kept c =
     let cursor = s .args .cursor in
     let asked = subst (λ n. Asks cursor n (drawing .to-draw-past .result)) (blocks .ensures .0) (drawing .to-draw-past .ensures) in
     let seen = c .walk-candidates in
-    kept-by (describes (s .args .w .now)) (s .pre .0) cursor (drawing .to-draw-past .result) (seen .last .1 .1 .0) asked (seen .ensures .0)
+    kept-by (describes (s .args .w .now)) (s .pre .0) cursor (drawing .to-draw-past .result) (seen .last .1 .1 .1 .0) asked (seen .ensures .0)
 
 returns : tie.Need-returns
 returns c =
     let seen = c .before .before .before in
     let a = seen .before .before .before .before .before .args in
     let d = describes (a .w .now) in
-    let e = none-kept d (draw d (a .cursor)) (seen .walk-candidates .last .1 .1 .0) (kept seen) (c .before .if1 .taken) in
+    let e = none-kept d (draw d (a .cursor)) (seen .walk-candidates .last .1 .1 .1 .0) (kept seen) (c .before .if1 .taken) in
     (sym e, c .zero-row .ensures ∙ ap rowOr (sym e))
 
 array-read-cost : tie.Need-array-read-cost
@@ -72,7 +72,7 @@ unpacked-requires c κs = omega (arith, c .before .before .before .before .befor
 
 -- the cost that was kept, and the row that the draw answers
 answered : (c : tie.After-unpacked) → let seen = c .before .before .before in
-    let words = seen .walk-candidates .last .1 .1 .0 in
+    let words = seen .walk-candidates .last .1 .1 .1 .0 in
     let a = seen .before .before .before .before .before .args in
     let d = describes (a .w .now) in
     let p = c .unpacked .result in
@@ -80,7 +80,7 @@ answered : (c : tie.After-unpacked) → let seen = c .before .before .before in
     (draw d (a .cursor) ≡ some (record { cost = getD words bestCostAt 0; placement = p; bill = billOf d p }))
 answered c =
     let seen = c .before .before .before in
-    let words = seen .walk-candidates .last .1 .1 .0 in
+    let words = seen .walk-candidates .last .1 .1 .1 .0 in
     let place = getD words bestPlaceAt 0 in
     let blocks = seen .before .before .before .before .block-count in
     let a = seen .before .before .before .before .before .args in
@@ -93,7 +93,7 @@ bill-of-requires c κs = answered c .0
 
 returns-2 : tie.Need-returns-2
 returns-2 c =
-    let words = c .before .before .before .before .walk-candidates .last .1 .1 .0 in
+    let words = c .before .before .before .before .walk-candidates .last .1 .1 .1 .0 in
     let row : Bill → Row = λ bill. record { cost = getD words bestCostAt 0; placement = c .before .unpacked .result; bill = bill } in
     let drawn = ap (λ bill. some (row bill)) (c .bill-of .ensures) ∙ sym (answered (c .before) .1) in
     (drawn, ap rowOr drawn)

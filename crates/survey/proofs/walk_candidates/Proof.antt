@@ -12,7 +12,7 @@ returns c =
     let a = s .args in
     let d = describes (a .w .now) in
     let w = s .pre .0 .wellFormed in
-    let none = sym (s .pre .1 .0) ∙ c .if1 .taken in
+    let none = sym (s .pre .1 .0 .0) ∙ c .if1 .taken in
     (sym (none-seen d w none (a .state .now)), sym (none-kept-words d w none (a .state .now) (a .kept .now)))
 
 walk-over-requires : tie.Need-walk-over-requires

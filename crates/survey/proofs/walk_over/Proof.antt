@@ -9,7 +9,7 @@ use Rattle.survey.proofs.walk_over.Statement.{statement}
 use Rattle.survey.proofs.walk_over.Tie as tie
 
 fill-requires : tie.Need-fill-requires
-fill-requires c κs = (c .before .before .before .pre .0 .wellFormed, (refl, refl))
+fill-requires c κs = let s = c .before .before .before in (s .pre .0 .wellFormed, (refl, refl, s .pre .1 .0))
 
 block-count-requires : tie.Need-block-count-requires
 block-count-requires c κs = search needs
@@ -21,7 +21,7 @@ walk-all-requires c κs =
     let s = filled .before .before .before .before in
     let admitted = s .pre .0 in
     let all = ready (describes (s .args .w .now)) (admitted .wellFormed) (admitted .inRange) in
-    (s .pre .1, subst₂ Ready (sym (filled .fill .ensures)) (sym (counted .block-count .ensures .0)) all)
+    (s .pre .1 .1, subst₂ Ready (sym (filled .fill .ensures)) (sym (counted .block-count .ensures .0)) all)
 
 same-length : tie.Need-same-length
 same-length c = search needs

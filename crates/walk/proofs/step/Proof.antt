@@ -36,13 +36,13 @@ few s = omega (arith, s .pre .1 .0 .1, s .pre .1 .0 .2 .few)
 ends-here : (c : tie.After-wide Inv-loop μ-loop)
     → let s = c .before .before .before .before .before in
     let e = c .before .before .before .loop .e in
-    (start (S s) (s .args .at) ≤ e) × (e < start (S s) (s .args .at + 1)) × (c .wide .result ≡ end (S s) (2 * e + 1)) × (c .wide .result ≤ s .args .at)
+    (start (S s) (s .args .at) ≤ e) × (e < start (S s) (s .args .at + 1)) × (c .wide .result ≡ end (S s) (2 * e + 1)) × (c .wide .result < 64)
 ends-here c =
     let s = c .before .before .before .before .before in
     let l = c .before .before .before .loop in
     let u : l .e < start (S s) (s .args .at + 1) = omega (arith, l .inv .1, l .inv .2, c .before .before .loop-test .taken) in
     let ends = ends-at (S s) (blocks s) (ready s) (s .args .at) (l .e) (s .pre .1 .0 .1) (l .inv .0) u in
-    (l .inv .0, u, c .wide .ensures, omega (arith, c .wide .ensures, ends .1))
+    (l .inv .0, u, c .wide .ensures, omega (arith, c .wide .ensures, ends .2, few s))
 
 mul-all : tie.Need-mul-all Inv-loop μ-loop
 mul-all c = omega (arith, place-small (c .args .at) (c .args .place) (omega (arith, few c)) (c .pre .0 .1))
@@ -97,14 +97,8 @@ element-copy-out-wide c = search needs
 wide-requires : tie.Need-wide-requires Inv-loop μ-loop
 wide-requires c κs = search needs
 
-sub-y : tie.Need-sub-y Inv-loop μ-loop
-sub-y c = omega (arith, ends-here c .3)
-
-mul-y : tie.Need-mul-y Inv-loop μ-loop
-mul-y c = search needs
-
 shr-y : tie.Need-shr-y Inv-loop μ-loop
-shr-y c = omega (arith, few (c .before .before .before .before .before))
+shr-y c = ends-here c .3
 
 mul-sum-3 : tie.Need-mul-sum-3 Inv-loop μ-loop
 mul-sum-3 c = search needs
@@ -135,7 +129,7 @@ add-sum-6 c =
       arith,
       l .inv .4,
       part-small (S s) (blocks s) (ready s) (s .args .at + 1) (l .e) (digits (s .args .at + 1) (s .args .place * 8 + s .args .c)),
-      ready s .small (termsFrom + (l .e * 64 + s .args .c * 8 + (s .args .place * 8 + s .args .c) / 2 ^ (3 * (s .args .at - c .before .wide .result)) % 8)),
+      ready s .small (termsFrom + (l .e * 64 + s .args .c * 8 + (s .args .place * 8 + s .args .c) / 2 ^ (c .before .wide .result) % 8)),
       few s,
     )
 
@@ -152,7 +146,7 @@ loop-again c =
     let h = ends-here (c .before) in
     let q = digits (s .args .at + 1) (s .args .place * 8 + s .args .c) in
     let at = s .args .at in
-    let other = (s .args .place * 8 + s .args .c) / 2 ^ (3 * (at - c .before .wide .result)) % 8 in
+    let other = (s .args .place * 8 + s .args .c) / 2 ^ (c .before .wide .result) % 8 in
     let added : term (S s) (l .e * 64 + s .args .c * 8 + other) ≡ edgeTerm (S s) q (l .e) =
     rw (h .2) (edge-next (S s) (blocks s) (ready s) at (l .e) (s .args .c) (s .args .place) (s .pre .1 .0 .1) (s .pre .0 .0) (h .0) (h .1)) in
     (omega arith, omega arith, l .inv .2, l .inv .3, rw (add-one (l .e)) (omega (arith, l .inv .4, added, part-edge (S s) (at + 1) (l .e) q)))
@@ -182,8 +176,6 @@ step-spec =
     add-wide
     element-copy-out-wide
     wide-requires
-    sub-y
-    mul-y
     shr-y
     mul-sum-3
     mul-sum-4

@@ -31,8 +31,8 @@ lacks c =
     let d = describes (c .before .before .before .before .before .before .before .args .w .now) in
     some-missing (length (rows d)) (c .before .before .capacity .result) (m .result) (m .ensures) (c .if1 .taken)
 
-mul-t12 : tie.Need-mul-t12
-mul-t12 c =
+mul-t13 : tie.Need-mul-t13
+mul-t13 c =
     let s = c .before .before .before .before .before .before .before in
     omega (arith, lacks c .1, rows-few (describes (s .args .w .now)) (s .pre .0), s .pre .0 .few)
 
@@ -94,7 +94,7 @@ list-accepted-spec =
     (tie.spec
     capacity-requires
     missing-requires
-    mul-t12
+    mul-t13
     same-length
     same-length-2
     returns

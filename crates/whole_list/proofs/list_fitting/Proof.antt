@@ -36,7 +36,7 @@ bill-rows-requires c κs =
     let d = describes (s .args .w .now) in
     let n = keep .keep-rows .ensures .0 in
     let fits = s .pre .1 .1 in
-    let scratch = keep .keep-rows .kept .1 .1 .0 in (
+    let scratch = keep .keep-rows .kept .1 .1 .1 .0 in (
       (omega (arith, n, fits .1, scratch, sort .sort-rows .kept .0), omega (arith, n, fits .0, sort .sort-rows .kept .1 .0)),
       subst₂ (AllPriced d) (sym n) (sym (sorted sort)) (keys-priced d (s .pre .0) (drop (keysNeeded d) (s .args .scratch .now))),
     )

@@ -1,16 +1,26 @@
 -- Each return by what the searches before it found.
-use mathlib.Core.Path.{sym, ap, _∙_}
+use mathlib.Core.Path.{_≡_, refl, sym, ap, _∙_}
+use mathlib.Core.List.{List}
 use native.Mathlib.Omega.{arith}
 use Prim.Native.Nat.{ℕ, _≤_, _<_}
 use Rattle.security.specs.Answers.{foundIn}
 use Rattle.description.specs.Meaning.{describes}
 use Rattle.security.specs.Soundness.{count}
 use Rattle.security.proofs.Sound.{breaks-rule2, breaks-rule3, breaks-rule4, too-many, keeps-all}
-use Rattle.judging.specs.Answers.{admissionOf, counted}
-use Rattle.sequences.specs.Results.{ok}
+use Rattle.description.specs.Format.{Description}
+use Rattle.judging.specs.declared.answers.Admission.{Admission}
+use Rattle.judging.specs.declared.answers.Admission.the-variants.{Refused}
+use Rattle.judging.specs.Answers.{admissionOf, counted, masksAfter}
+use Rattle.judging.specs.Calls.{masked}
+use Rattle.sequences.specs.Results.{Result, ok, refused}
 use borrow.Author.Needs.{needs}
 use Rattle.judging.proofs.acceptance.soundness.Statement.{statement}
 use Rattle.judging.proofs.acceptance.soundness.Tie as tie
+
+-- a refusal is told, and leaves the masks
+told : (d : Description) {o : Admission} {number place : ℕ} {v : Result Description} → o ≡ Refused (record { number = number; place = place })
+    → v ≡ refused number place → (masks : List ℕ) → (admissionOf o d ≡ counted v) × (masks ≡ masksAfter (masked v) masks)
+told d e r masks = (ap (λ o. admissionOf o d) e ∙ sym (ap counted r), sym (ap (λ v. masksAfter (masked v) masks) r))
 
 first-breaking-rule2-requires : tie.Need-first-breaking-rule2-requires
 first-breaking-rule2-requires c κs = search needs
@@ -23,9 +33,10 @@ refused-requires c κs = search needs
 
 returns : tie.Need-returns
 returns c =
-    let d = describes (c .before .before .before .before .before .args .w .now) in
+    let a = c .before .before .before .before .before .args in
+    let d = describes (a .w .now) in
     let rule2 = sym (c .before .before .before .before .first-breaking-rule2 .ensures) ∙ ap foundIn (c .before .before .block .given .1) in
-    ap (λ o. admissionOf o d) (c .refused .ensures) ∙ sym (ap counted (breaks-rule2 d rule2))
+    told d (c .refused .ensures) (breaks-rule2 d rule2) (a .masks .now)
 
 enum-told : tie.Need-enum-told
 enum-told c = search needs
@@ -45,7 +56,7 @@ returns-2 c =
     let d = describes (two .before .args .w .now) in
     let rule2 = sym (two .first-breaking-rule2 .ensures) ∙ ap foundIn (c .before .before .before .before .before .enum-told .given .1) in
     let rule3 = sym (c .before .before .before .before .first-breaking .ensures) ∙ ap foundIn (c .before .before .read .given .1) in
-    ap (λ o. admissionOf o d) (c .refused2 .ensures) ∙ sym (ap counted (breaks-rule3 d rule2 rule3))
+    told d (c .refused2 .ensures) (breaks-rule3 d rule2 rule3) (two .before .args .masks .now)
 
 enum-told-2 : tie.Need-enum-told-2
 enum-told-2 c = search needs
@@ -67,19 +78,31 @@ returns-3 c =
     let rule2 = sym (two .first-breaking-rule2 .ensures) ∙ ap foundIn (three .before .enum-told .given .1) in
     let rule3 = sym (three .first-breaking .ensures) ∙ ap foundIn (c .before .before .before .before .before .enum-told2 .given .1) in
     let rule4 = sym (c .before .before .before .before .first-breaking2 .ensures) ∙ ap foundIn (c .before .before .write .given .1) in
-    ap (λ o. admissionOf o d) (c .refused3 .ensures) ∙ sym (ap counted (breaks-rule4 d rule2 rule3 rule4))
+    told d (c .refused3 .ensures) (breaks-rule4 d rule2 rule3 rule4) (two .before .args .masks .now)
 
 enum-told-3 : tie.Need-enum-told-3
 enum-told-3 c = search needs
 
-candidate-count-requires : tie.Need-candidate-count-requires
-candidate-count-requires c κs = search needs
+masks-of-requires : tie.Need-masks-of-requires
+masks-of-requires c κs = refl
 
 refused-requires-4 : tie.Need-refused-requires-4
 refused-requires-4 c κs = search needs
 
 returns-4 : tie.Need-returns-4
 returns-4 c =
+    let four = c .before .before .before .before .before .before in
+    let three = four .before .before .before in
+    let two = three .before .before .before in
+    let d = describes (two .before .args .w .now) in
+    let rule2 = sym (two .first-breaking-rule2 .ensures) ∙ ap foundIn (three .before .enum-told .given .1) in
+    let rule3 = sym (three .first-breaking .ensures) ∙ ap foundIn (four .before .enum-told2 .given .1) in
+    let rule4 = sym (four .first-breaking2 .ensures) ∙ ap foundIn (c .before .before .before .before .enum-told3 .given .1) in
+    let many : 65536 < count d = omega (arith, c .before .before .masks-of .ensures .0) in
+    told d (c .refused4 .ensures) (too-many d rule2 rule3 rule4 many) (two .before .args .masks .now)
+
+returns-5 : tie.Need-returns-5
+returns-5 c =
     let four = c .before .before .before .before .before in
     let three = four .before .before .before in
     let two = three .before .before .before in
@@ -87,21 +110,13 @@ returns-4 c =
     let rule2 = sym (two .first-breaking-rule2 .ensures) ∙ ap foundIn (three .before .enum-told .given .1) in
     let rule3 = sym (three .first-breaking .ensures) ∙ ap foundIn (four .before .enum-told2 .given .1) in
     let rule4 = sym (four .first-breaking2 .ensures) ∙ ap foundIn (c .before .before .before .enum-told3 .given .1) in
-    let many : 65536 < count d = omega (arith, c .before .before .candidate-count .ensures) in
-    ap (λ o. admissionOf o d) (c .refused4 .ensures) ∙ sym (ap counted (too-many d rule2 rule3 rule4 many))
-
-returns-5 : tie.Need-returns-5
-returns-5 c =
-    let four = c .before .before .before .before in
-    let three = four .before .before .before in
-    let two = three .before .before .before in
-    let d = describes (two .before .args .w .now) in
-    let rule2 = sym (two .first-breaking-rule2 .ensures) ∙ ap foundIn (three .before .enum-told .given .1) in
-    let rule3 = sym (three .first-breaking .ensures) ∙ ap foundIn (four .before .enum-told2 .given .1) in
-    let rule4 = sym (four .first-breaking2 .ensures) ∙ ap foundIn (c .before .before .enum-told3 .given .1) in
-    let number = c .before .candidate-count .ensures in
+    let number = c .before .masks-of .ensures .0 in
     let few : count d ≤ 65536 = omega (arith, number) in
-    ap (λ (n : ℕ). ok (d, n)) number ∙ sym (ap counted (keeps-all d rule2 rule3 rule4 few))
+    let sounds = keeps-all d rule2 rule3 rule4 few in
+    let worked-out = c .before .masks-of .ensures .1 in (
+      ap (λ (n : ℕ). ok (d, n)) number ∙ sym (ap counted sounds),
+      worked-out ∙ sym (ap (λ v. masksAfter (masked v) (two .before .args .masks .now)) sounds),
+    )
 
 pub soundness-spec : {M : Type 1} → statement M
 soundness-spec =
@@ -122,7 +137,7 @@ soundness-spec =
     refused-requires-3
     returns-3
     enum-told-3
-    candidate-count-requires
+    masks-of-requires
     refused-requires-4
     returns-4
     returns-5)

@@ -1,6 +1,7 @@
 -- The bit of the exchange table.
-use mathlib.Core.Path.{ap}
-use Rattle.visit.specs.Tables.{bit}
+use mathlib.Core.Path.{sym, ap, _∙_}
+use Rattle.sequences.specs.Bits.{bit}
+use Rattle.sequences.proofs.Bits.{bit-is}
 use borrow.Author.Needs.{needs}
 use Rattle.visit.proofs.rowtest.is_better.Statement.{statement}
 use Rattle.visit.proofs.rowtest.is_better.Tie as tie
@@ -24,8 +25,9 @@ shr-result : tie.Need-shr-result
 shr-result c = search needs
 
 returns : tie.Need-returns
-unfolding bit
-returns c = ap (λ m. bit m (c .before .before .args .there)) (c .wide .ensures)
+returns c =
+    let there = c .before .before .args .there in
+    sym (bit-is (c .wide .result) there) ∙ ap (λ m. bit m there) (c .wide .ensures)
 
 pub is-better-spec : {M : Type 1} → statement M
 is-better-spec = tie.close (tie.spec mul-wide add-wide add-wide-2 element-copy-out-wide wide-requires shr-result returns)
