@@ -29,6 +29,10 @@ module _ {A : Type 0} (f : Record → A) (start many : ℕ) (n : ℕ) (w : List 
   pub record-inside : (k : ℕ) (z : A) → k < length (take n (part f start many w)) → f (recordAt w (start + k)) ≡ getD (take n (part f start many w)) k z
   record-inside k z h = sym (part-at f start many w k z (omega (arith, how-many))) ∙ at-inside n (part f start many w) k z h
 
+pub few-clouds : (w : List ℕ) → length (describes w .clouds) ≤ mostClouds
+unfolding describes
+few-clouds w = omega (arith, how-many toCloud firstCloud mostClouds (recordAt w counts .a) w)
+
 pub few-blocks : (w : List ℕ) → length (describes w .blocks) ≤ mostBlocks
 unfolding describes
 few-blocks w = omega (arith, how-many toBlock firstBlock mostBlocks (recordAt w counts .b) w)

@@ -1,5 +1,6 @@
 // What Read accepts: a decoded description that keeps rules 2 to 4 and has few enough candidates.
 ghost use mathlib.Core.Path.{_≡_};
+ghost use lib.ListN.{replicate};
 ghost use Rattle.description.specs.Meaning.{describes, Cleared};
 ghost use Rattle.security.specs.Soundness.{sound, read};
 ghost use Rattle.judging.specs.Answers.{admissionOf, counted, masksAfter};
@@ -35,9 +36,10 @@ fn refused(number: u8, place: usize) -> Admission
     Admission::Refused(Refusal { number, place })
 }
 
-// Rules 2 to 4 and the limit on candidates, in the order of their numbers. The masks are worked out here, once for a call; they are lent
-// back where all is kept.
+// Rules 2 to 4 and the limit on candidates, in the order of their numbers. The masks are worked out here, once for a call, in the lent array
+// itself: a copy would wait for bytes that were stored one by one. If there are too many candidates, they are cleared again.
 fn soundness(w: &Words, masks: &mut Masks) -> Admission
+    requires { ⌜ now masks ≡ replicate 16 0 ⌝ }
     ensures { λ r. ⌜ admissionOf r (describes (now (w .entry))) ≡ counted (sound (describes (now (w .entry)))) ⌝ }
     ensures { λ _. ⌜ now (masks .exit) ≡ masksAfter (masked (sound (describes (now (w .entry))))) (now (masks .entry)) ⌝ }
 {
@@ -53,17 +55,17 @@ fn soundness(w: &Words, masks: &mut Masks) -> Admission
     if let Found::At(n) = write {
         return refused(RULE_4, n);
     }
-    let mut permitted = [0u8; POSITIONS];
-    let candidates = masks_of(w, &mut permitted);
+    let candidates = masks_of(w, masks);
     if MOST_CANDIDATES < candidates {
+        *masks = [0u8; POSITIONS];
         return refused(TOO_MANY_CANDIDATES, 0);
     }
-    *masks = permitted;
     Admission::Accepted(candidates)
 }
 
 // What Read accepts, decoded into the words, with its masks; a refusal leaves the words cleared and the masks as they were.
 pub fn accept_with_masks(description: &[u8], w: &mut Words, masks: &mut Masks) -> Admission
+    requires { ⌜ now masks ≡ replicate 16 0 ⌝ }
     ensures { λ r. ⌜ admissionOf r (describes (now (w .exit))) ≡ counted (read (now (description .entry))) ⌝ }
     ensures { λ _. ⌜ Cleared (read (now (description .entry))) (now (w .exit)) ⌝ }
     ensures { λ _. ⌜ now (masks .exit) ≡ masksAfter (masked (read (now (description .entry)))) (now (masks .entry)) ⌝ }

@@ -21,6 +21,7 @@ use description::workflow::cloud_count;
 use description::workflow::edge_count;
 use security::answers::Verdict;
 use security::masks::Masks;
+use security::masks::POSITIONS;
 
 // Read: the counts of clouds, blocks and edges of an accepted description, or its first refusal.
 pub fn read(description: &[u8]) -> Acceptance
@@ -44,9 +45,13 @@ pub fn masks(description: &[u8], masks: &mut Masks) -> Masked
     ensures { λ _. ⌜ now (masks .exit) ≡ masksAfter (masksCall (now (description .entry))) (now (masks .entry)) ⌝ }
 {
     let mut w = [0u32; WORDS];
-    let admission = acceptance::accept_with_masks(description, &mut w, masks);
+    let mut permitted = [0u8; POSITIONS];
+    let admission = acceptance::accept_with_masks(description, &mut w, &mut permitted);
     match admission {
-        Admission::Accepted(_) => Masked::Written,
+        Admission::Accepted(_) => {
+            *masks = permitted;
+            Masked::Written
+        }
         Admission::Refused(r) => Masked::Refused(r),
     }
 }

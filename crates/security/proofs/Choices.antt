@@ -1,18 +1,27 @@
 -- Where a block may stand: on declared clouds only, and past the last block on the first alone.
 use Prim.Native.Nat.{ℕ, _≤_, _<_}
 use mathlib.Core.Path.{_≡_, ap}
-use mathlib.Core.Bool.{true, false}
+use mathlib.Core.Bool.{true, false, _&&_}
 use mathlib.Core.List.{[], _∷_}
 use lib.Dec.{eqb}
 use lib.ListN.{length}
 use borrow.Author.Tests.{lt-ltb, le-ltb}
-use Rattle.description.specs.Format.{Description}
+use Rattle.description.specs.Format.{Description, block}
 use Rattle.sequences.specs.Lists.{keep, below}
 use Rattle.sequences.proofs.Agreeing.{keep-agree}
-use Rattle.security.specs.Soundness.{mayStand, choicesOf}
+use Rattle.security.specs.Soundness.{blockLevel, pinAllows, highEnough, mayStand, choicesOf}
 use Rattle.security.proofs.Standing.{block-stands}
 
+-- a cloud that is not declared is not high enough for anything
+pub not-declared : (d : Description) (level k : ℕ) → length (d .clouds) ≤ k → highEnough d level k ≡ false
+not-declared d level k l = simp (le-ltb k (length (d .clouds)) l)
+
 module _ (d : Description) (b : ℕ) where
+  -- a block may stand where it is high enough and where its pin allows
+  pub named-stands : (k : ℕ) → b < length (d .blocks) → mayStand d b k ≡ (highEnough d (blockLevel d b) k && pinAllows (block d b .pin) k)
+  unfolding mayStand
+  named-stands k h = simp (lt-ltb b (length (d .blocks)) h)
+
   pub no-cloud : (k : ℕ) → b < length (d .blocks) → length (d .clouds) ≤ k → mayStand d b k ≡ false
   unfolding mayStand
   no-cloud k h l = simp (lt-ltb b (length (d .blocks)) h, le-ltb k (length (d .clouds)) l)

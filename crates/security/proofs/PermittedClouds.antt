@@ -1,35 +1,37 @@
 -- The sixteen bytes of permitted clouds: they are what the rule says of each block and cloud, no others are, and the choices by them are the
 -- candidates.
-use Prim.Native.Nat.{ℕ, _+_, _-_, _≤_, _<_}
-use native.Mathlib.Decide.{decLt}
+use Prim.Native.Nat.{ℕ, _+_, _-_, _^_, _≤_, _<_}
+use native.Mathlib.Nat.{zero-add}
+use native.Mathlib.Decide.{decLt, ℕ-discrete}
 use native.Mathlib.Omega.{arith}
 use mathlib.Core.Path.{_≡_, refl, sym, ap, ap₂, _∙_}
 use mathlib.Core.Logic.{_↔_}
-use mathlib.Core.Bool.{Bool, true, false, false≢true}
+use mathlib.Core.Bool.{Bool, true, false, _&&_, cond, and-false, false≢true}
 use mathlib.Core.List.{List, [], _∷_, _++_, map, map-append, map-map}
 use lib.Count.{ones}
-use lib.Dec.{lit<}
-use lib.ListN.{length, getD, take, length-map, List·getD-eq-default}
+use lib.Dec.{eqb, lit<}
+use lib.ListN.{length, getD, length-map, List·getD-eq-default}
 use lib.Seq.{ext-getD}
-use borrow.Author.Tests.{lt-ltb, le-ltb}
-use Rattle.description.specs.Format.{Description, namesBlock}
+use borrow.Author.Tests.{ltb-true, lt-ltb, le-ltb, eq-eqb, ne-eqb}
+use Rattle.description.specs.declared.workflow.Pin.{Pin}
+use Rattle.description.specs.Format.{Description, block, namesBlock}
 use Rattle.description.specs.Invariants.{Limits}
 use Rattle.security.specs.Masks.{maskOf, masksOf, Permitted, blockMasks, padded, Chooses}
-use Rattle.security.specs.Soundness.{mayStand, choicesOf, candidates, count}
+use Rattle.security.specs.Soundness.{blockLevel, pinAllows, highEnough, mayStand, choicesOf, candidates}
 use Rattle.security.specs.Statements.{Stands}
 use Rattle.security.proofs.Candidates.{count-is-length, candidates-choices}
-use Rattle.security.proofs.Choices.{last-choice}
+use Rattle.security.proofs.Choices.{last-choice, named-stands}
 use Rattle.security.proofs.Standing.{block-stands}
 use Rattle.sequences.specs.Bits.{bit, bits, setBits, bitChoices}
-use Rattle.sequences.specs.Lists.{from, below, keep, product, sequences}
+use Rattle.sequences.specs.Lists.{from, below, product, sequences}
 use Rattle.sequences.proofs.Agreeing.{tests-agree}
-use Rattle.sequences.proofs.Bits.{bit-bits, bit-off, bit-past, bits-small, same-bits}
+use Rattle.sequences.proofs.Bits.{bit-bits, bit-past, bits-none, bits-small, bits-single, bits-same, bits-cut, same-bits}
 use Rattle.sequences.proofs.Choices.{length-sequences}
 use Rattle.sequences.proofs.Counting.{from-split}
 use Rattle.sequences.proofs.Filling.{length-table, getD-table, take-table, table-map}
 use Rattle.sequences.proofs.Indexing.{map-below, map-constant, sequences-padded}
 use Rattle.sequences.proofs.SetBits.{ones-set, set-of-bits, bit-choices-ascend, bit-choices-once}
-use Rattle.sequences.proofs.Tests.{cond-ind}
+use Rattle.sequences.proofs.Tests.{cond-ind, both-pass}
 
 module _ (d : Description) where
   -- ---- one byte
@@ -41,6 +43,35 @@ module _ (d : Description) where
   pub mask-beyond : (b : ℕ) → length (d .blocks) ≤ b → maskOf d b ≡ 0
   unfolding maskOf
   mask-beyond b h = simp (le-ltb b (length (d .blocks)) h)
+
+  -- by its pin: all clouds that are high enough, or one of them
+  pub mask-by-pin : (b : ℕ) (pin : Pin) → b < length (d .blocks) → block d b .pin ≡ pin
+      → bits (λ k. highEnough d (blockLevel d b) k && pinAllows pin k) 0 8 ≡ maskOf d b
+  mask-by-pin b pin h e =
+      bits-same _ _ 0 8 (λ k _ _. ap (λ p. highEnough d (blockLevel d b) k && pinAllows p k) (sym e) ∙ sym (named-stands d b k h)) ∙ sym (mask-named b h)
+
+  module _ (level c : ℕ) where
+    abbrev pinned : ℕ → Bool
+    pinned k = highEnough d level k && eqb c k
+
+    pinned-alone : (k : ℕ) → (c ≡ k → ⊥) → pinned k ≡ false
+    pinned-alone k n = ap (λ b. highEnough d level k && b) (ne-eqb c k n) ∙ and-false (highEnough d level k)
+
+    pinned-none : highEnough d level c ≡ false → (k : ℕ) → pinned k ≡ false
+    pinned-none low k = elim (ℕ-discrete c k) [
+      | yes e ↦ ap (λ i. highEnough d level i && eqb c i) (sym e) ∙ ap (λ a. a && eqb c c) low
+      | no n ↦ pinned-alone k n
+    ]
+
+    pub pinned-bits : length (d .clouds) ≤ 8 → cond (highEnough d level c) (2 ^ c) 0 ≡ bits pinned 0 8
+    pinned-bits few = go (highEnough d level c) refl
+      where
+        go : (b : Bool) → highEnough d level c ≡ b → cond b (2 ^ c) 0 ≡ bits pinned 0 8
+        go true high =
+            let there : c < 8 = omega (arith, ltb-true c (length (d .clouds)) (both-pass _ _ .0 high .0)) in
+            let here = ap pinned (zero-add c) ∙ ap₂ (λ a b. a && b) high (eq-eqb c c refl) in
+            sym (bits-single pinned 0 8 c there (λ k n. pinned-alone k (λ e. n (omega arith))) ∙ ap (λ (b : Bool). cond b (2 ^ c) 0) here)
+        go false low = sym (sym (bits-cut pinned 0 8 (omega arith) (λ k _. pinned-none low k)) ∙ bits-none pinned 0)
 
   pub mask-low : (b : ℕ) → maskOf d b < 256
   unfolding maskOf

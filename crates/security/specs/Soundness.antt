@@ -55,13 +55,14 @@ abbrev pub pinAllows : Pin → ℕ → Bool
 pinAllows Free k = true
 pinAllows (To c) k = eqb c k
 
--- Block b may stand on cloud k: k is declared, its level is at least that of b (rule 7), and the pin of b is kept. A position past
--- the last block has 0.
+-- cloud k is declared, and its level is at least this (rule 7)
+abbrev pub highEnough : Description → (level k : ℕ) → Bool
+highEnough d level k = namesCloud d k && covers (cloudLevel d k) level
+
+-- Block b may stand on cloud k: k is declared, its level is at least that of b, and the pin of b is kept. A position past the last block
+-- has 0.
 unfoldable pub mayStand : Description → ℕ → ℕ → Bool
-mayStand d b k =
-    cond (namesBlock d b)
-    (namesCloud d k && covers (cloudLevel d k) (blockLevel d b) && pinAllows (block d b .pin) k)
-    (eqb k 0)
+mayStand d b k = cond (namesBlock d b) (highEnough d (blockLevel d b) k && pinAllows (block d b .pin) k) (eqb k 0)
 
 -- the clouds that position b may have, and the sixteen positions
 unfoldable pub choicesOf : Description → ℕ → List ℕ

@@ -3,7 +3,7 @@ ghost use mathlib.Core.Path.{_≡_};
 ghost use Rattle.sequences.specs.Lists.{first};
 ghost use Rattle.description.specs.Meaning.{describes};
 ghost use Rattle.security.specs.Answers.{foundIn};
-ghost use Rattle.security.specs.Soundness.{covers, clearanceOf, breaks2, breaks3, breaks4, pinAllows, mayStand};
+ghost use Rattle.security.specs.Soundness.{covers, clearanceOf, breaks2, breaks3, breaks4, pinAllows, highEnough, mayStand};
 use crate::answers::Found;
 use description::decode::is_write;
 use description::words::Words;
@@ -105,6 +105,17 @@ fn pin_allows(p: Pin, k: usize) -> bool
     }
 }
 
+// Cloud k is declared, and as high as this: rule 7.
+pub fn is_high_enough(w: &Words, level: u8, k: usize) -> bool
+    ensures { λ r. ⌜ r ≡ highEnough (describes (now (w .entry))) level k ⌝ }
+{
+    if cloud_count(w) <= k {
+        return false;
+    }
+    let cloud = cloud_at(w, k);
+    covers(cloud.level, level)
+}
+
 // Position b may have cloud k: by rule 7 and the pin, and past the last block it has 0.
 pub fn may_stand(w: &Words, b: usize, k: usize) -> bool
     ensures { λ r. ⌜ r ≡ mayStand (describes (now (w .entry))) b k ⌝ }
@@ -112,12 +123,8 @@ pub fn may_stand(w: &Words, b: usize, k: usize) -> bool
     if block_count(w) <= b {
         return k == 0;
     }
-    if cloud_count(w) <= k {
-        return false;
-    }
     let block = block_at(w, b);
-    let cloud = cloud_at(w, k);
-    if !covers(cloud.level, block.level) {
+    if !is_high_enough(w, block.level, k) {
         return false;
     }
     let pin = block.pin;

@@ -1,19 +1,17 @@
 -- The walk meets the placements below its prefix, in order, and each turn those with one cloud more.
 use borrow.Author.Needs.{needs}
-use Prim.Native.Nat.{ℕ, _+_, _-_, _*_, _≤_, _<_, _^_}
+use Prim.Native.Nat.{ℕ, _+_, _-_, _*_, _<_}
 use native.Mathlib.Nat.{one-le-pow}
 use native.Mathlib.Omega.{arith}
-use mathlib.Core.Path.{_≡_, refl, sym, ap, _∙_}
+use mathlib.Core.Path.{_≡_, refl, ap, _∙_}
 use lib.Count.{trailingZeros}
 use lib.ListN.{length}
-use Rattle.packing.specs.Packing.{digits}
 use Rattle.packing.proofs.Digits.{place-small}
-use Rattle.visit.specs.Tables.{mask, tables}
-use Rattle.visit.specs.Visits.{stateSize, counterCount, countLimit, tally}
+use Rattle.visit.specs.Visits.{stateSize, countLimit, tally}
 use Rattle.visit.proofs.Counters.{see-size}
 use Rattle.visit.proofs.Rows.{paired-bytes}
 use Rattle.walk.specs.Walking.{Sight}
-use Rattle.walk.specs.Turning.{Setting, setting, Room, branches, seeThese, Under, WalkedBelow, Turned}
+use Rattle.walk.specs.Turning.{Setting, setting, Under, WalkedBelow, Turned}
 use Rattle.walk.proofs.Turns.{Going, going-begins, going-low, going-room, going-next, going-ends, leaf-walked, under-next, open-walked}
 use borrow.Fn.Kinds.{In}
 use borrow.Fn.PlainCycle.{Measures, is, falls, and}

@@ -1,5 +1,5 @@
 -- Each return by what the searches before it found.
-use mathlib.Core.Path.{_≡_, refl, sym, ap, _∙_}
+use mathlib.Core.Path.{_≡_, sym, ap, _∙_}
 use mathlib.Core.List.{List}
 use native.Mathlib.Omega.{arith}
 use Prim.Native.Nat.{ℕ, _≤_, _<_}
@@ -84,22 +84,24 @@ enum-told-3 : tie.Need-enum-told-3
 enum-told-3 c = search needs
 
 masks-of-requires : tie.Need-masks-of-requires
-masks-of-requires c κs = refl
+masks-of-requires c κs = c .before .before .before .before .before .before .before .before .before .before .pre
 
 refused-requires-4 : tie.Need-refused-requires-4
 refused-requires-4 c κs = search needs
 
 returns-4 : tie.Need-returns-4
 returns-4 c =
-    let four = c .before .before .before .before .before .before in
+    let sum = c .before .before .before in
+    let four = sum .before .before .before .before in
     let three = four .before .before .before in
     let two = three .before .before .before in
     let d = describes (two .before .args .w .now) in
     let rule2 = sym (two .first-breaking-rule2 .ensures) ∙ ap foundIn (three .before .enum-told .given .1) in
     let rule3 = sym (three .first-breaking .ensures) ∙ ap foundIn (four .before .enum-told2 .given .1) in
-    let rule4 = sym (four .first-breaking2 .ensures) ∙ ap foundIn (c .before .before .before .before .enum-told3 .given .1) in
-    let many : 65536 < count d = omega (arith, c .before .before .masks-of .ensures .0) in
-    told d (c .refused4 .ensures) (too-many d rule2 rule3 rule4 many) (two .before .args .masks .now)
+    let rule4 = sym (four .first-breaking2 .ensures) ∙ ap foundIn (sum .before .before .enum-told3 .given .1) in
+    let many : 65536 < count d = omega (arith, sum .masks-of .ensures .0) in
+    let refusal = told d (c .refused4 .ensures) (too-many d rule2 rule3 rule4 many) (two .before .args .masks .now) in
+    (refusal .0, sym (two .before .pre) ∙ refusal .1)
 
 returns-5 : tie.Need-returns-5
 returns-5 c =
