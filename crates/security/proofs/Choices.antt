@@ -1,6 +1,6 @@
 -- Where a block may stand: on declared clouds only, and past the last block on the first alone.
 use Prim.Native.Nat.{ℕ, _≤_, _<_}
-use mathlib.Core.Path.{_≡_, ap}
+use mathlib.Core.Path.{_≡_, ap, _∙_}
 use mathlib.Core.Bool.{true, false, _&&_}
 use mathlib.Core.List.{[], _∷_}
 use lib.Dec.{eqb}
@@ -23,8 +23,7 @@ module _ (d : Description) (b : ℕ) where
   named-stands k h = simp (lt-ltb b (length (d .blocks)) h)
 
   pub no-cloud : (k : ℕ) → b < length (d .blocks) → length (d .clouds) ≤ k → mayStand d b k ≡ false
-  unfolding mayStand
-  no-cloud k h l = simp (lt-ltb b (length (d .blocks)) h, le-ltb k (length (d .clouds)) l)
+  no-cloud k h l = named-stands k h ∙ ap (λ t. t && pinAllows (block d b .pin) k) (not-declared d (blockLevel d b) k l)
 
   -- a cloud on which a block may stand is declared
   pub stands-declared : (k : ℕ) → b < length (d .blocks) → mayStand d b k ≡ true → k < length (d .clouds)

@@ -11,8 +11,8 @@ use lib.ListN.{length, getD}
 use borrow.Author.Tests.{ltb-true, lt-ltb, le-ltb, leb-true, le-leb, eqb-true, eq-eqb}
 use Rattle.description.specs.declared.workflow.Pin.{Pin}
 use Rattle.description.specs.declared.workflow.Pin.the-variants.{Free, To}
-use Rattle.description.specs.Format.{Description, block, namesCloud, isPinned}
-use Rattle.security.specs.Soundness.{covers, cloudLevel, blockLevel, mayStand, pinAllows}
+use Rattle.description.specs.Format.{Description, block, isPinned}
+use Rattle.security.specs.Soundness.{covers, blockLevel, pinAllows, highEnough, mayStand}
 use Rattle.security.specs.Statements.{Stands, Good}
 use Rattle.sequences.proofs.Tests.{both-pass}
 
@@ -21,7 +21,7 @@ pin-kept Free k = (λ _ c e. absurd (false≢true (ap isPinned e)), λ _. refl)
 pin-kept (To c) k = (λ t b e. let same : c ≡ b = cc in sym same ∙ eqb-true c k t, λ h. eq-eqb c k (h c refl))
 
 module _ (d : Description) where
-  stands-test : (b k : ℕ) → ((namesCloud d k && covers (cloudLevel d k) (blockLevel d b) && pinAllows (block d b .pin) k) ≡ true) ↔ Stands d b k
+  stands-test : (b k : ℕ) → ((highEnough d (blockLevel d b) k && pinAllows (block d b .pin) k) ≡ true) ↔ Stands d b k
   unfolding covers
   stands-test b k = (
     λ t.
