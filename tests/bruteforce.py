@@ -16,19 +16,20 @@ import re
 import sys
 from collections import Counter
 from pathlib import Path
-from typing import NamedTuple
 
-from cases import (ALL_READ, APART_COMMANDS, EIGHT_APART, EIGHT_CLOUDS, EIGHT_PAIRS, EIGHT_TWOS,
-                   FILES, FIVE_DATA, GUARDED, LETTERS, LONGEST, LONGEST_APART, M, MIXED_COMMANDS,
-                   MIXED_EDGES, M_APART, M_COMMANDS, PAIR, PAIRS_OF_FIVE, REFUSED_BY_READ, SECOND,
-                   SIXTEEN_BLOCKS, SIXTEEN_PINS, SOME_WRITE, STEPS, STOP, THIRTY_TWO_EDGES, TRIO,
-                   TWO_BY_TWO, accepted, add_random_pairs, answer_all, apart, apart_workflow,
-                   assorted_candidates, bend, census_case, cloud, commands_of, counted,
-                   cursor_bytes, damage_bytes, damage_commands, datum, dice_of, draw_case,
-                   judge_case, masks_case, meeting, picture_case, pin, placed, random_placement,
-                   random_text, random_workflow, read_case, reads, refused, refused_at_each, rooms,
-                   row_line, ruled, service, size_case, spoil, start_case, together,
-                   transfers_case, untouched, verdict, with_buffer, with_length, writes)
+from cases import (ACROSS, ALL_READ, APART_COMMANDS, EIGHT_APART, EIGHT_CLOUDS, EIGHT_PAIRS,
+                   EIGHT_TWOS, FILES, FIVE_DATA, GUARDED, LETTERS, LONGEST, LONGEST_APART, M,
+                   MIXED_COMMANDS, MIXED_EDGES, M_APART, M_COMMANDS, PAIR, PAIRS_OF_FIVE,
+                   REFUSED_BY_READ, SECOND, SIXTEEN_BLOCKS, SIXTEEN_PINS, SOME_WRITE, STEPS, STOP,
+                   THIRTY_TWO_EDGES, TRIO, TWO_BY_TWO, Known, accepted, add_random_pairs,
+                   answer_all, apart, apart_workflow, assorted_candidates, bend, census_case, cloud,
+                   commands_of, counted, cursor_bytes, damage_bytes, damage_commands, datum,
+                   dice_of, draw_case, fork, judge_case, masks_case, meeting, picture_case, pin,
+                   pipe, placed, random_placement, random_text, random_workflow, read_case, reads,
+                   refused, refused_at_each, rooms, row_line, ruled, service, size_case, spoil,
+                   start_case, stores, together, transfers_case, untouched, verdict, with_buffer,
+                   with_length, writes)
+from copy_cases import COPIES, COPY_TRANSFERS, copy_traits, crossings, shorten, storage_misfit
 from mask_cases import mask_cases, misfit, missing_masks
 from model import (HIGHEST, MOST_BLOCKS, MOST_CANDIDATES, MOST_CLOUDS, MOST_EDGES, MOST_PAIRS,
                    READS, WRITES, Amounts, Cloud, Datum, Description, Edge, Refused, Row, Service,
@@ -807,35 +808,23 @@ def transfers_apart_random(dice):
                 yield transfers_case(text, placement, room)
 
 
+def transfers_copies():
+    for text, placement, entries in COPY_TRANSFERS:
+        for room in (4 * len(entries), 12):
+            yield given_transfers(text, placement, room, entries)
+
+
 def transfers_cases(dice):
     yield from transfers_by_hand()
     yield from transfers_apart()
     yield from transfers_random(dice)
     yield from transfers_apart_random(dice)
+    yield from transfers_copies()
 
 
 # ---- The stored cases: descriptions for Census and Draw -------------------------------
 
-def stores(*rates):
-    """Clouds at level 0 that charge for storage alone."""
-    return b"".join(cloud(0, rate) for rate in rates)
-
-
-def pipe(what=datum(0, 10, 1), order="wdr", edges="wr"):
-    """A writer, a datum and its only reader, the one shape in which two homes are one option.
-
-    The letters w, d, r say in which order the blocks are declared, and then the edges.
-    """
-    blocks = {"w": service(0, HIGHEST), "d": what, "r": service(0, HIGHEST)}
-    links = {"w": writes(order.index("w"), order.index("d")),
-             "r": reads(order.index("r"), order.index("d"))}
-    return b"".join(blocks[each] for each in order) + b"".join(links[each] for each in edges)
-
-
-ACROSS = pin(0, 0) + pin(2, 1)                             # a pipe's writer on 0, its reader on 1
-# A writer on cloud 0, its datum and two readers.
-FORK = (service() + datum(0, 10, 1) + service() * 2 + writes(0, 1) + reads(2, 1) + reads(3, 1)
-        + pin(0, 0))
+FORK = fork(datum(0, 10, 1))
 ONE_WAY = cloud(0, 1, 0, 3) + cloud(0, 2, 4, 0)            # 0 to 1 costs 7, 1 to 0 nothing
 GRID = EIGHT_CLOUDS + datum() * 2                          # 64 rows that cost nothing
 # Six services whose cpu units are powers of two: every cost from 0 to 63, once.
@@ -845,63 +834,46 @@ PRICED = cloud(0, 2, 3, 5, 7) + cloud(0, 11, 13, 17, 19) + datum(0, 15, 3) + ser
 DEAREST = cloud(0, 65535, 65535, 65535, 65535)
 
 
-class Known(NamedTuple):
-    """A description with its census and its rows, both worked out by hand.
-
-    A row is a cost, a digit for each block, and its storage, transfer and cpu; without
-    these three, all of the cost is for storage.
-    """
-    text: bytes
-    counts: tuple
-    rows: str
-
-    def found(self):
-        return [known_row(*shown.split()) for shown in self.rows.split(", ") if shown]
-
-
-def known_row(price, clouds, *amounts):
-    parts = Amounts(*map(int, amounts or (price, 0, 0)))
-    return Row(int(price), placed(*map(int, clouds)), parts)
-
-
 KNOWN = [Known(begin + STOP, counts, found) for begin, counts, found in (
     (M[:-1], (16, 8, 0, 0, 8, 6),
-     "2820 11111 1320 0 1500, 2840 11110 1320 20 1500, 2920 11000 1320 100 1500, "
-     "2940 11001 1320 120 1500, 3020 11011 1320 200 1500, 3040 11010 1320 220 1500"),
+     "2820 11111 1320 0 1500, 2850 11110 1330 20 1500, 2970 11000 1370 100 1500, "
+     "3000 11001 1380 120 1500, 3120 11011 1420 200 1500, 3150 11010 1430 220 1500"),
     (SECOND[:-1], (16, 8, 4, 0, 4, 3),
-     "6300 1111110011 3900 50 2350, 6600 1111111011 3900 100 2600, "
+     "6350 1111110011 3950 50 2350, 6700 1111111011 4000 100 2600, "
      "6800 1111111111 4200 0 2600"),
-    # The cheaper home stands for the option; of two that cost the same, the earlier bytes.
-    (stores(1, 2) + pipe(), (8, 0, 0, 0, 8, 6), "1 000, 1 001, 1 100, 1 101, 2 010, 2 111"),
-    (stores(2, 1) + pipe(), (8, 0, 0, 0, 8, 6), "1 010, 1 011, 1 110, 1 111, 2 000, 2 101"),
-    (stores(1, 1) + pipe(), (8, 0, 0, 0, 8, 6), "1 000, 1 001, 1 010, 1 100, 1 101, 1 111"),
+    # A month at home costs as much as a month as a copy, so that both homes of an option cost the
+    # same and the earlier bytes stand for it; kept for no month, the home whose copy is cheaper.
+    (stores(1, 2) + pipe(), (8, 0, 0, 0, 8, 6), "1 000, 2 111, 3 001, 3 100, 4 010, 5 101"),
+    (stores(2, 1) + pipe(), (8, 0, 0, 0, 8, 6), "1 111, 2 000, 3 001, 3 100, 4 101, 5 010"),
+    (stores(1, 1) + pipe(), (8, 0, 0, 0, 8, 6), "1 000, 1 111, 2 001, 2 100, 3 010, 3 101"),
     (stores(1, 2) + pipe(datum(0, 10, 0)), (8, 0, 0, 0, 8, 6),
-     "0 000, 0 001, 0 010, 0 100, 0 101, 0 111"),
+     "0 000, 0 111, 1 011, 1 110, 2 010, 4 101"),
     (stores(2, 1) + pipe(datum(0, 0, 9)), (8, 0, 0, 0, 8, 6),
      "0 000, 0 001, 0 010, 0 100, 0 101, 0 111"),
     (stores(0, 0) + pipe(datum(0, 10, 9)), (8, 0, 0, 0, 8, 6),
      "0 000, 0 001, 0 010, 0 100, 0 101, 0 111"),
-    (stores(1, 2) + pipe() + ACROSS, (2, 0, 0, 0, 2, 1), "1 001"),
-    (stores(2, 1) + pipe() + ACROSS, (2, 0, 0, 0, 2, 1), "1 011"),
-    (stores(1, 1) + pipe() + ACROSS, (2, 0, 0, 0, 2, 1), "1 001"),
-    (stores(1, 1, 1) + pipe() + pin(0, 2) + pin(2, 1), (3, 0, 0, 0, 3, 2), "1 201, 1 211"),
-    (stores(1, 2, 1) + pipe() + pin(0, 2) + pin(2, 1), (3, 0, 0, 0, 3, 2), "1 201, 1 221"),
-    (stores(3, 1, 1) + pipe() + pin(0, 1) + pin(2, 2), (3, 0, 0, 0, 3, 2), "1 112, 3 102"),
-    # A home that a pin forbids stands for nothing, however cheap it is.
-    (stores(1, 2) + pipe() + pin(1, 1), (4, 0, 0, 0, 4, 4), "2 010, 2 011, 2 110, 2 111"),
-    (stores(1, 2) + pipe() + ACROSS + pin(1, 1), (1, 0, 0, 0, 1, 1), "2 011"),
-    (stores(2, 1) + pipe() + ACROSS + pin(1, 0), (1, 0, 0, 0, 1, 1), "2 001"),
+    (stores(1, 2) + pipe() + ACROSS, (2, 0, 0, 0, 2, 1), "3 001"),
+    (stores(2, 1) + pipe() + ACROSS, (2, 0, 0, 0, 2, 1), "3 001"),
+    (stores(1, 1) + pipe() + ACROSS, (2, 0, 0, 0, 2, 1), "2 001"),
+    # On a third cloud the datum has two copies, which is an option of its own.
+    (stores(1, 1, 1) + pipe() + pin(0, 2) + pin(2, 1), (3, 0, 0, 0, 3, 2), "2 211, 3 201"),
+    (stores(1, 2, 1) + pipe() + pin(0, 2) + pin(2, 1), (3, 0, 0, 0, 3, 2), "3 211, 4 201"),
+    (stores(3, 1, 1) + pipe() + pin(0, 1) + pin(2, 2), (3, 0, 0, 0, 3, 2), "2 112, 5 102"),
+    # A home that a pin forbids stands for nothing.
+    (stores(1, 2) + pipe() + pin(1, 1), (4, 0, 0, 0, 4, 4), "2 111, 3 011, 3 110, 4 010"),
+    (stores(1, 2) + pipe() + ACROSS + pin(1, 1), (1, 0, 0, 0, 1, 1), "3 011"),
+    (stores(2, 1) + pipe() + ACROSS + pin(1, 0), (1, 0, 0, 0, 1, 1), "3 001"),
     # Two readers: each has a copy of its own, so nothing merges.
-    (ONE_WAY + FORK + pin(2, 1) + pin(3, 1), (2, 0, 0, 0, 2, 2), "9 0111 2 7 0, 15 0011 1 14 0"),
-    (ONE_WAY + FORK + pin(2, 0) + pin(3, 1), (2, 0, 0, 0, 2, 2), "8 0001 1 7 0, 9 0101 2 7 0"),
-    (stores(1, 1, 1) + FORK + pin(2, 1) + pin(3, 2), (3, 0, 0, 0, 3, 3), "1 0012, 1 0112, 1 0212"),
+    (ONE_WAY + FORK + pin(2, 1) + pin(3, 1), (2, 0, 0, 0, 2, 2), "10 0111 3 7 0, 19 0011 5 14 0"),
+    (ONE_WAY + FORK + pin(2, 0) + pin(3, 1), (2, 0, 0, 0, 2, 2), "10 0001 3 7 0, 11 0101 4 7 0"),
+    (stores(1, 1, 1) + FORK + pin(2, 1) + pin(3, 2), (3, 0, 0, 0, 3, 3), "3 0012, 3 0112, 3 0212"),
     # Where the writer is the reader, or one of the two is missing, nothing merges either.
     (stores(1, 1) + service() + datum(0, 10, 1) + writes(0, 1) + reads(0, 1), (4, 0, 0, 0, 4, 4),
-     "1 00, 1 01, 1 10, 1 11"),
+     "1 00, 1 11, 3 01, 3 10"),
     (stores(1, 1) + service() + datum(0, 10, 1) + writes(0, 1), (4, 0, 0, 0, 4, 4),
-     "1 00, 1 01, 1 10, 1 11"),
+     "1 00, 1 11, 2 01, 2 10"),
     (stores(1, 1) + service() + datum(0, 10, 1) + reads(0, 1), (4, 0, 0, 0, 4, 4),
-     "1 00, 1 01, 1 10, 1 11"),
+     "1 00, 1 11, 2 01, 2 10"),
     # Levels: what lies too low for a copy; both rules broken counts under 16.
     (cloud(0, 1) + cloud(1, 2) + pipe(datum(1, 10, 1)), (4, 2, 1, 0, 1, 1), "2 111"),
     (HIGH_DATUM + writes(1, 0), (2, 0, 1, 0, 1, 1), "0 11"),
@@ -925,11 +897,11 @@ KNOWN = [Known(begin + STOP, counts, found) for begin, counts, found in (
     # Every rate another, so that an amount tells which rates it is made of.
     (PRICED, (4, 0, 0, 0, 4, 4), "47 00 12 0 35, 101 10 66 0 35, 107 01 12 0 95, 161 11 66 0 95"),
     (PRICED + reads(1, 0), (4, 0, 0, 0, 4, 4),
-     "47 00 12 0 35, 141 10 66 40 35, 143 01 12 36 95, 161 11 66 0 95"),
+     "47 00 12 0 35, 145 10 70 40 35, 161 11 66 0 95, 165 01 34 36 95"),
     (PRICED + writes(1, 0), (4, 0, 0, 0, 4, 4),
-     "47 00 12 0 35, 137 10 66 36 35, 147 01 12 40 95, 161 11 66 0 95"),
+     "47 00 12 0 35, 141 10 70 36 35, 161 11 66 0 95, 169 01 34 40 95"),
     (PRICED + writes(1, 0) + reads(1, 0), (4, 0, 0, 0, 4, 4),
-     "47 00 12 0 35, 161 11 66 0 95, 177 10 66 76 35, 183 01 12 76 95"),
+     "47 00 12 0 35, 161 11 66 0 95, 185 10 74 76 35, 227 01 56 76 95"),
     # Rows of one cost with other amounts, and transfers that are all there is to pay.
     (cloud(0, 1, cpu=2) + cloud(0, 2, cpu=1) + datum(0, 10, 1) + service(units=1),
      (4, 0, 0, 0, 4, 4), "2 01 1 0 1, 3 00 1 0 2, 3 11 2 0 1, 4 10 2 0 2"),
@@ -940,7 +912,7 @@ KNOWN = [Known(begin + STOP, counts, found) for begin, counts, found in (
     (stores(2, 1) + pipe(datum(0, 5, 9)), (8, 0, 0, 0, 8, 6),
      "0 000, 0 001, 0 010, 0 100, 0 101, 0 111"),
     (stores(2, 1) + pipe(datum(0, 6, 9)), (8, 0, 0, 0, 8, 6),
-     "9 010, 9 011, 9 110, 9 111, 18 000, 18 101"),
+     "9 111, 11 011, 11 110, 13 010, 18 000, 20 101"),
     (stores(1, 2) + datum(0, 15, 1) + datum(0, 25, 1), (4, 0, 0, 0, 4, 4),
      "4 00, 6 01, 6 10, 8 11"),
     (stores(1, 2) + datum(0, 26, 1) + datum(0, 35, 1), (4, 0, 0, 0, 4, 4),
@@ -950,11 +922,11 @@ KNOWN = [Known(begin + STOP, counts, found) for begin, counts, found in (
      "450373705898400 0000000000000000"),
     (DEAREST * 2 + datum(0, 65535, 65535) * 8 + service(units=0xFFFFFFFF) * 8 + ALL_READ
      + b"".join(pin(block, block // 8) for block in range(16)), (1, 0, 0, 0, 1, 1),
-     "2476979795420760 0000000011111111 225186852949200 27489048960 2251765453422600"),
+     "2476993539945240 0000000011111111 225200597473680 27489048960 2251765453422600"),
     # Two files apart: M's first and last, and two that one service has to do with; in the second
     # example two of which one is always copied to where the other is.
-    (M[:-1] + apart(0, 4), (16, 8, 0, 6, 2, 1), "2920 11000 1320 100 1500"),
-    (M[:-1] + apart(4, 0), (16, 8, 0, 6, 2, 1), "2920 11000 1320 100 1500"),
+    (M[:-1] + apart(0, 4), (16, 8, 0, 6, 2, 1), "2970 11000 1370 100 1500"),
+    (M[:-1] + apart(4, 0), (16, 8, 0, 6, 2, 1), "2970 11000 1370 100 1500"),
     (M[:-1] + apart(0, 2), (16, 8, 0, 8, 0, 0), ""),
     (M[:-1] + apart(4, 2), (16, 8, 0, 8, 0, 0), ""),
     (SECOND[:-1] + apart(1, 7), (16, 8, 4, 4, 0, 0), ""),
@@ -970,11 +942,11 @@ KNOWN = [Known(begin + STOP, counts, found) for begin, counts, found in (
      (1, 0, 0, 1, 0, 0), ""),
     # By a copy, of a read or of a write; and by two copies.
     (stores(1, 2, 4) + datum(0, 10, 1) * 2 + service() + reads(2, 0) + apart(0, 1),
-     (27, 0, 0, 15, 12, 12), "3 010, 3 012, 3 101, 3 102, 5 020, 5 021, 5 201, 5 202, "
-                             "6 120, 6 121, 6 210, 6 212"),
+     (27, 0, 0, 15, 12, 12), "3 010, 3 101, 5 020, 5 202, 6 121, 6 212, "
+                             "7 012, 7 021, 7 102, 7 120, 7 201, 7 210"),
     (stores(1, 2, 4) + datum(0, 10, 1) * 2 + service() + apart(1, 0) + writes(2, 0),
-     (27, 0, 0, 15, 12, 12), "3 010, 3 012, 3 101, 3 102, 5 020, 5 021, 5 201, 5 202, "
-                             "6 120, 6 121, 6 210, 6 212"),
+     (27, 0, 0, 15, 12, 12), "3 010, 3 101, 5 020, 5 202, 6 121, 6 212, "
+                             "7 012, 7 021, 7 102, 7 120, 7 201, 7 210"),
     (meeting(reads(2, 0) + writes(3, 1) + pin(0, 0) + pin(1, 1))[:-1], (9, 0, 0, 6, 3, 3),
      "0 0101, 0 0102, 0 0121"),
     # All four kinds of candidates.
@@ -982,9 +954,9 @@ KNOWN = [Known(begin + STOP, counts, found) for begin, counts, found in (
     # A pipe, and a datum that may not meet its own: an option is kept or broken as a whole.
     (stores(1, 2) + pipe() + datum() + apart(1, 3), (16, 0, 0, 14, 2, 2), "1 0001, 2 1110"),
     (stores(1, 2, 4) + pipe() + datum(0, 10, 1) + ACROSS + apart(1, 3), (9, 0, 0, 7, 2, 1),
-     "5 0012"),
+     "7 0012"),
     (stores(2, 1, 4) + pipe() + datum(0, 10, 1) + ACROSS + apart(3, 1), (9, 0, 0, 7, 2, 1),
-     "5 0112"),
+     "7 0012"),
 )]
 
 
@@ -1178,6 +1150,11 @@ def flow_text(dice, most):
     return b"".join(commands_of(dice, random_flows(dice, most)))
 
 
+def brief_text(dice, most):
+    """A workflow as those of `flow_text`, in which copies count beside data."""
+    return b"".join(commands_of(dice, shorten(dice, random_flows(dice, most))))
+
+
 QUICK = 1000                    # candidates; random descriptions with more are passed over
 
 
@@ -1262,11 +1239,20 @@ def census_random(dice):
         yield census_case(text)
 
 
+def census_copies(dice):
+    for known in (*COPIES, *crossings()):
+        yield census_case(known.text, census_line(known.counts))
+    for most in (8, 30, 100, 300):
+        for _ in range(10):
+            yield census_case(brief_text(dice, most))
+
+
 def census_cases(dice):
     yield from census_by_hand()
     yield from census_apart()
     yield from census_random(dice)
     yield from census_apart_random(dice)
+    yield from census_copies(dice)
 
 
 # ---- The stored cases: Draw -----------------------------------------------------------
@@ -1439,11 +1425,11 @@ CHARGES = {0: range(6), 1: range(6, 15), 2: range(15, 26), 3: range(26, 35), 4: 
 
 
 def draw_sizes():
-    """Each of these sizes stored, and transferred by a read and by a write."""
+    """Each of these sizes stored, transferred by a read and by a write, and kept as a copy."""
     for charge, sizes in CHARGES.items():
         for size in sizes:
             for edge, rate in ((reads(1, 0), 3 + 11), (writes(1, 0), 13 + 2)):
-                amounts = Amounts(2 * charge, rate * charge, 17)
+                amounts = Amounts(2 * charge + 7 * charge, rate * charge, 17)
                 text = (cloud(0, 1, 2, 3, 5) + cloud(0, 7, 11, 13, 17) + datum(0, size, 2)
                         + service(units=1) + edge + pin(0, 0) + pin(1, 1) + STOP)
                 row = Row(sum(amounts), placed(0, 1), amounts)
@@ -1485,6 +1471,23 @@ def draw_apart(dice):
         yield from draw_at_random(dice, text, 5)
 
 
+def draw_copies(dice):
+    """Where copies count: all draws of what is known, and draws near the other ends of options."""
+    for known in COPIES:
+        yield from chain(known.text, known.found())
+    for known in crossings():
+        row, = known.found()
+        yield draw_case(known.text, None, row_line(row))
+        yield draw_case(known.text, row.cursor(), "finished")
+        for placement in candidates(read(known.text)):
+            yield draw_case(known.text, row_at(read(known.text), placement).cursor(), "finished")
+            yield draw_case(known.text, (row.cost - 1, placement), row_line(row))
+    for number in range(40):
+        text = brief_text(dice, dice.choice((8, 24, 24, 64, 64, 200)))
+        yield from from_the_start(number, text)
+        yield from draw_at_random(dice, text, 5)
+
+
 def draw_random(dice):
     for number in range(80):
         text = flow_text(dice, dice.choice((8, 24, 24, 64, 64, 200, 600)))
@@ -1513,6 +1516,7 @@ def draw_cases(dice):
     yield from draw_apart(dice)
     yield from draw_sizes()
     yield from draw_halves(dice)
+    yield from draw_copies(dice)
 
 
 # ---- The stored cases: all of them ----------------------------------------------------
@@ -1592,9 +1596,9 @@ def check_interview():
     def place(digits_of_blocks):
         return placed(*(int(digit) for digit in digits_of_blocks))
 
-    require(listing(M) == ["2820 11111 1320 0 1500", "2840 11110 1320 20 1500",
-                           "2920 11000 1320 100 1500", "2940 11001 1320 120 1500",
-                           "3020 11011 1320 200 1500", "3040 11010 1320 220 1500",
+    require(listing(M) == ["2820 11111 1320 0 1500", "2850 11110 1330 20 1500",
+                           "2970 11000 1370 100 1500", "3000 11001 1380 120 1500",
+                           "3120 11011 1420 200 1500", "3150 11010 1430 220 1500",
                            "options 6"], "interview 1: the rows of M")
     require(census(M) == (16, 8, 0, 0, 8, 6), "interview 2: the census of M")
     option = option_of(read(M))
@@ -1617,9 +1621,15 @@ def check_interview():
 
 def check_apart():
     """M with its first and last file apart."""
-    require(listing(M_APART) == ["2920 11000 1320 100 1500", "options 1"], "apart: the rows")
+    require(listing(M_APART) == ["2970 11000 1370 100 1500", "options 1"], "apart: the rows")
     require(census(M_APART) == (16, 8, 0, 6, 2, 1), "apart: the census")
     require(refusal_of(judge, M_APART, placed(1, 1, 1, 1, 1)) == (17, 0), "apart: 11111")
+
+
+def check_second():
+    """The second example, whose first two rows have copies on cloud 1: one, and two."""
+    require(listing(SECOND) == ["6350 1111110011 3950 50 2350", "6700 1111111011 4000 100 2600",
+                                "6800 1111111111 4200 0 2600", "options 3"], "second: the rows")
 
 
 def check_halves():
@@ -1801,6 +1811,7 @@ def traits(text):
         "eight clouds": len(described.clouds) == MOST_CLOUDS,
         "sixteen blocks": len(described.blocks) == MOST_BLOCKS,
         "thirty-two edges": len(described.edges) == MOST_EDGES,
+        **copy_traits(text),
     }
 
 
@@ -1825,6 +1836,14 @@ def check_sizes(cases, lines):
              for block in read(case.text()).blocks if isinstance(block, Datum)}
     missing = sorted({*range(41), *range(65495, 65536)} - drawn)
     require(not missing, f"no row has a datum of size {missing}")
+
+
+def check_copies(cases, lines):
+    """The storage of every row that is drawn, beside the transfers that leave its copies."""
+    for case, line in zip(cases, lines):
+        if case.letter() == "D" and line.startswith("row "):
+            fault = storage_misfit(case.text(), line)
+            require(fault is None, f"{line}: {fault}: {case.text().hex()}")
 
 
 def check_pictures(cases, lines):
@@ -1872,6 +1891,7 @@ def check_numbers(letter, lines):
 def check(letters, directory):
     check_interview()
     check_apart()
+    check_second()
     check_halves()
     check_picture()
     check_interview_masks()
@@ -1883,6 +1903,7 @@ def check(letters, directory):
     check_options(cases)
     if "D" in letters:
         check_sizes(cases, lines)
+        check_copies(cases, lines)
     if "P" in letters:
         check_pictures(cases, lines)
     if {"P", "B"} <= set(letters):

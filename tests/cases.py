@@ -1,7 +1,8 @@
 """The cases of the program callcases, and what they are made of.
 
 Parts: cases and their answers by the model; commands, and descriptions that several calls
-are asked about; random descriptions; random placements and lengths of buffers.
+are asked about, some with their rows; random descriptions; random placements and lengths of
+buffers.
 """
 
 import itertools
@@ -10,10 +11,10 @@ from collections import Counter
 from typing import NamedTuple
 
 from model import (APART, CLOUD, DATUM, END, HIGHEST, MOST_BLOCKS, MOST_CANDIDATES, MOST_PAIRS,
-                   PIN, READS, SERVICE, WIDTHS, WRITES, Cloud, Datum, Description, Edge, Refused,
-                   Service, allowed, census, check_placement, count_candidates, draw, judge,
-                   keeps_rule_3, keeps_rule_4, masks, one_too_many, picture, picture_size, read,
-                   said_before, transfers)
+                   PIN, READS, SERVICE, WIDTHS, WRITES, Amounts, Cloud, Datum, Description, Edge,
+                   Refused, Row, Service, allowed, census, check_placement, count_candidates, draw,
+                   judge, keeps_rule_3, keeps_rule_4, masks, one_too_many, picture, picture_size,
+                   read, said_before, transfers)
 
 
 # ---- Cases and their answers ----------------------------------------------------------
@@ -414,6 +415,50 @@ EIGHT_TWOS = [apart(2 * pair, 2 * pair + 1) for pair in range(8)]
 def together(pairs):
     """The data of these pairs side by side, those of the others on two clouds."""
     return bytes(0 if block // 2 in pairs else block % 2 for block in range(16))
+
+
+def stores(*rates):
+    """Clouds at level 0 that charge for storage alone."""
+    return b"".join(cloud(0, rate) for rate in rates)
+
+
+def pipe(what=datum(0, 10, 1), order="wdr", edges="wr"):
+    """A writer, a datum and its only reader, the one shape in which two homes are one option.
+
+    The letters w, d, r say in which order the blocks are declared, and then the edges.
+    """
+    blocks = {"w": service(0, HIGHEST), "d": what, "r": service(0, HIGHEST)}
+    links = {"w": writes(order.index("w"), order.index("d")),
+             "r": reads(order.index("r"), order.index("d"))}
+    return b"".join(blocks[each] for each in order) + b"".join(links[each] for each in edges)
+
+
+ACROSS = pin(0, 0) + pin(2, 1)                             # a pipe's writer on 0, its reader on 1
+
+
+def fork(what):
+    """A writer on cloud 0, its datum and two readers."""
+    return (service() + what + service() * 2 + writes(0, 1) + reads(2, 1) + reads(3, 1)
+            + pin(0, 0))
+
+
+class Known(NamedTuple):
+    """A description with its census and its rows, both worked out by hand.
+
+    A row is a cost, a digit for each block, and its storage, transfer and cpu; without
+    these three, all of the cost is for storage.
+    """
+    text: bytes
+    counts: tuple
+    rows: str
+
+    def found(self):
+        return [known_row(*shown.split()) for shown in self.rows.split(", ") if shown]
+
+
+def known_row(price, clouds, *amounts):
+    parts = Amounts(*map(int, amounts or (price, 0, 0)))
+    return Row(int(price), placed(*map(int, clouds)), parts)
 
 
 # ---- Random descriptions --------------------------------------------------------------

@@ -18,8 +18,8 @@ import re
 import subprocess
 import sys
 
-from bruteforce import ROOT, known_row, require, stored_bytes
-from cases import Tape, cursor_bytes, row_line, verdict, with_length
+from bruteforce import ROOT, require, stored_bytes
+from cases import Tape, cursor_bytes, known_row, row_line, verdict, with_length
 from model import Refused, count_candidates, listing, read, row_at
 
 PROGRAMS = ROOT / "target" / "bin"

@@ -381,6 +381,7 @@ class Amounts(NamedTuple):
 
 
 def amounts_of(described, placement):
+    """Data are stored for their longevity, and the copy of each transfer for one month."""
     storage = transfer = cpu = 0
     for b, block in enumerate(described.blocks):
         cloud = described.clouds[placement[b]]
@@ -388,9 +389,13 @@ def amounts_of(described, placement):
             storage += cloud.storage_rate * gigabytes(block.size) * block.longevity
         else:
             cpu += cloud.cpu_rate * block.cpu_units
-    for _, datum, source, destination in moves(described, placement):
+    for e, datum, source, destination in moves(described, placement):
+        moved = gigabytes(described.blocks[datum].size)
         rate = described.clouds[source].out_rate + described.clouds[destination].in_rate
-        transfer += rate * gigabytes(described.blocks[datum].size)
+        transfer += rate * moved
+        # Read or written, the copy lies with the service.
+        holder = described.clouds[placement[described.edges[e].service]]
+        storage += holder.storage_rate * moved
     return Amounts(storage, transfer, cpu)
 
 

@@ -70,11 +70,11 @@ impl Edge {
 }
 
 impl Block {
-    /// What a transfer of the datum is charged at these rates.
-    fn moved(&self, outward: u16, inward: u16) -> u64 {
+    /// What the datum's gigabytes are charged at these rates, all together.
+    fn charged<const N: usize>(&self, rates: [u16; N]) -> u64 {
         match self.kind {
             Kind::Datum { gigabytes, .. } => {
-                u64::from(gigabytes) * (u64::from(outward) + u64::from(inward))
+                u64::from(gigabytes) * rates.map(u64::from).iter().sum::<u64>()
             }
             Kind::Service { .. } => 0,
         }
@@ -132,10 +132,12 @@ impl Description {
             if service.level < datum.level {
                 return None;
             }
-            cost += match edge.way {
-                Way::Reads => datum.moved(home.outward, service.inward),
-                Way::Writes => datum.moved(service.outward, home.inward),
+            let [outward, inward] = match edge.way {
+                Way::Reads => [home.outward, service.inward],
+                Way::Writes => [service.outward, home.inward],
             };
+            // The copy lies with the service for a month.
+            cost += datum.charged([outward, inward, service.storage]);
         }
         for (block, &cloud) in self.blocks.iter().zip(placement) {
             cost += self.cloud(cloud).charge(block);
@@ -143,7 +145,7 @@ impl Description {
         Some(cost)
     }
 
-    /// What a secure placement is charged for storage, for transfers and for cpu.
+    /// What a secure placement is charged for storage, copies and all, for transfers and for cpu.
     pub fn amounts(&self, placement: &Clouds) -> [u64; 3] {
         let [mut storage, mut transfer, mut cpu] = [0; 3];
         for (block, &cloud) in self.blocks.iter().zip(placement) {
@@ -156,8 +158,10 @@ impl Description {
         for edge in self.edges.iter() {
             let [leaves, enters] = edge.course(placement);
             if leaves != enters {
+                let (datum, [service, _]) = (self.datum(edge), edge.ends(placement));
                 let (outward, inward) = (self.cloud(leaves).outward, self.cloud(enters).inward);
-                transfer += self.datum(edge).moved(outward, inward);
+                transfer += datum.charged([outward, inward]);
+                storage += datum.charged([self.cloud(service).storage]);
             }
         }
         [storage, transfer, cpu]

@@ -211,7 +211,7 @@ pub fn draw(
 /// panel::calls::list(interview, &mut rows, &mut scratch, &mut extent)?;
 /// assert_eq!(extent, [6, 5]);
 /// assert_eq!(rows[..5], [2820, 0o11111, 1320, 0, 1500]);
-/// assert_eq!(rows[5..10], [2840, 0o11110, 1320, 20, 1500]);
+/// assert_eq!(rows[5..10], [2850, 0o11110, 1330, 20, 1500]);
 /// # Ok::<(), panel::Refusal>(())
 /// ```
 ///

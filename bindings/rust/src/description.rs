@@ -219,7 +219,7 @@ impl Description {
     /// let first = interview.draw(Cursor::Start).expect("there is a secure placement");
     /// assert_eq!(first.to_string(), "2820 11111 1320 0 1500");
     /// let second = interview.draw(first.into()).expect("there are two");
-    /// assert_eq!(second.to_string(), "2840 11110 1320 20 1500");
+    /// assert_eq!(second.to_string(), "2850 11110 1330 20 1500");
     /// # Ok::<(), panel::Refusal>(())
     /// ```
     #[must_use]

@@ -49,10 +49,10 @@ impl<const N: usize> From<[u8; N]> for Placement {
 /// let interview = Description::read(include_bytes!("../../../examples/interview.bin"))?;
 /// let rows = interview.list();
 /// assert!(rows.is_sorted());
-/// assert_eq!(rows[1].cost(), 2840);
+/// assert_eq!(rows[1].cost(), 2850);
 /// assert_eq!(rows[1].clouds(), [1, 1, 1, 1, 0]);
-/// assert_eq!((rows[1].storage(), rows[1].transfer(), rows[1].cpu()), (1320, 20, 1500));
-/// assert_eq!(rows[1].to_string(), "2840 11110 1320 20 1500");
+/// assert_eq!((rows[1].storage(), rows[1].transfer(), rows[1].cpu()), (1330, 20, 1500));
+/// assert_eq!(rows[1].to_string(), "2850 11110 1330 20 1500");
 /// # Ok::<(), panel::Refusal>(())
 /// ```
 #[derive(Debug, Clone, Copy, PartialEq, Eq, PartialOrd, Ord, Hash)]
@@ -99,7 +99,8 @@ impl Row {
         self.cost
     }
 
-    /// What the data are charged for their time in storage.
+    /// What storage is charged: the data for their time, and each copy that a transfer leaves with
+    /// its service for one month there.
     #[must_use]
     pub fn storage(&self) -> u64 {
         self.storage
@@ -242,11 +243,11 @@ mod tests {
 
     #[test]
     fn a_packed_row_is_unpacked() {
-        let row = Row::unpack([2840, 4680, 1320, 20, 1500], 5);
-        assert_eq!(row.cost(), 2840);
+        let row = Row::unpack([2850, 4680, 1330, 20, 1500], 5);
+        assert_eq!(row.cost(), 2850);
         assert_eq!(row.clouds(), [1, 1, 1, 1, 0]);
         assert_eq!(row.placement(), &Placement::from([1, 1, 1, 1]));
-        assert_eq!((row.storage(), row.transfer(), row.cpu()), (1320, 20, 1500));
+        assert_eq!((row.storage(), row.transfer(), row.cpu()), (1330, 20, 1500));
         assert_eq!(Row::unpack([0, 0o7, 0, 0, 0], 2).clouds(), [0, 7]);
         let sixteen = Row::unpack([1, 0o1234_5670_0000_0007, 0, 0, 1], 16);
         assert_eq!(

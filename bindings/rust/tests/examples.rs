@@ -60,7 +60,7 @@ fn the_amounts_of_a_row_make_up_its_cost() {
     }
     let first = accepted(SECOND).draw(Cursor::Start);
     let amounts = first.map(|row| [row.storage(), row.transfer(), row.cpu()]);
-    assert_eq!(amounts, Some([3900, 50, 2350]));
+    assert_eq!(amounts, Some([3950, 50, 2350]));
 }
 
 #[test]
@@ -71,7 +71,7 @@ fn a_list_takes_what_its_rows_need() {
         listed.map(|()| (rows, scratch))
     };
     let (rows, scratch) = list(31, 13).expect("six rows fit");
-    assert_eq!(rows[25..], [3040, 0o11010, 1320, 220, 1500, 7]);
+    assert_eq!(rows[25..], [3150, 0o11010, 1430, 220, 1500, 7]);
     assert_eq!(scratch, [0, 0, 0, 0, 0, 0, 0, 0, 0, 0, 0, 0, 7]);
     let refusal = Refusal {
         number: 16,
@@ -536,12 +536,12 @@ fn any_cursor_will_do() {
         row.map(|row| row.to_string())
     };
     assert_eq!(
-        drawn(2840, Placement::default()).as_deref(),
-        Some("2840 11110 1320 20 1500")
+        drawn(2850, Placement::default()).as_deref(),
+        Some("2850 11110 1330 20 1500")
     );
     assert_eq!(
-        drawn(2840, Placement([255; 16])).as_deref(),
-        Some("2920 11000 1320 100 1500")
+        drawn(2850, Placement([255; 16])).as_deref(),
+        Some("2970 11000 1370 100 1500")
     );
     assert_eq!(drawn(u64::MAX, Placement([255; 16])), None);
 }

@@ -1,7 +1,7 @@
 -- What blocks and edges add to a weight: what is not declared is charged nothing, a datum is charged its storage, and what one block or one
 -- edge adds is small where a description's numbers are in their ranges.
 use Prim.Native.Nat.{ℕ, _+_, _*_, _≤_, _<_, zero-le}
-use native.Mathlib.Nat.{mul-le-mul, zero-mul, mul-zero, add-zero}
+use native.Mathlib.Nat.{mul-le-mul, add-le-add, zero-mul, mul-zero, add-zero}
 use native.Mathlib.Omega.{arith}
 use mathlib.Core.Path.{_≡_, refl, ap, _∙_}
 use mathlib.Core.Bool.{true, cond}
@@ -12,15 +12,14 @@ use Rattle.description.specs.declared.workflow.Block.{Block}
 use Rattle.description.specs.declared.workflow.Cloud.{Cloud}
 use Rattle.description.specs.declared.workflow.Edge.{Edge}
 use Rattle.description.specs.declared.workflow.Kind.{Kind}
-use Rattle.description.specs.declared.workflow.Kind.the-variants.{Datum, Service}
 use Rattle.description.specs.Format.{Description, noCloud, noBlock, cloud, block, isDatum, isWrite}
 use Rattle.description.specs.Invariants.{InRange}
 use Rattle.security.specs.Placements.{serviceCloud, datumCloud}
 use Rattle.weights.specs.Weights.{firstPenalty, secondPenalty, termLimit}
-use Rattle.costs.specs.Cost.{chargedOf, storageOf, cpuOf}
+use Rattle.costs.specs.Cost.{chargedOf, storageOf, cpuOf, copyOf}
 use Rattle.costs.specs.Terms.{blockTerm, edgeCharge, edgeExposes, penalty, edgeTerm, weightOf}
 use Rattle.costs.proofs.BlockCosts.{datum-computes-nothing}
-use Rattle.costs.proofs.CostBound.{mostTransfer, charged-most, storage-most, cpu-most}
+use Rattle.costs.proofs.CostBound.{mostTransfer, mostCopy, charged-most, storage-most, copy-most, cpu-most}
 use Rattle.sequences.specs.Lists.{below, sum}
 use Rattle.sequences.proofs.Tests.{cond-ind}
 
@@ -32,8 +31,7 @@ unfolding weightOf
 weight-terms d p = refl
 
 free : (k : Kind) → storageOf noCloud k + cpuOf noCloud k ≡ 0
-free (Datum size longevity) = simp (zero-mul)
-free (Service clearance units) = simp (zero-mul)
+free k = simp (zero-mul)
 
 module _ (d : Description) (b k : ℕ) where
   pub no-cloud-charge : length (d .clouds) ≤ k → blockTerm d b k ≡ 0
@@ -62,14 +60,16 @@ module _ (d : Description) (r : InRange d) where
       let computed = cpu-most (cloud d k) (r .rates k) (block d b .kind) (r .kinds b) in
       omega (arith, stored, computed)
 
-  charge-small : (e : Edge) (x y : ℕ) → edgeCharge d e x y ≤ mostTransfer
+  charge-small : (e : Edge) (x y : ℕ) → edgeCharge d e x y ≤ mostTransfer + mostCopy
   charge-small e x y =
       let out = cloud d x .outward + cloud d y .inward in
       let back = cloud d y .outward + cloud d x .inward in
       let rate = cond-ind (λ (n : ℕ). n ≤ 131070) (isWrite (e .way)) out back
       (λ _. omega (arith, r .rates x .outward, r .rates y .inward)) (λ _. omega (arith, r .rates y .outward, r .rates x .inward)) in
-      cond-ind (λ (n : ℕ). n ≤ mostTransfer) (eqb x y) 0 (cond (isWrite (e .way)) out back * chargedOf (block d (e .datum) .kind))
-      (λ _. zero-le) (λ _. mul-le-mul rate (charged-most (block d (e .datum) .kind) (r .kinds (e .datum))))
+      let kind = block d (e .datum) .kind in
+      let fits = r .kinds (e .datum) in
+      cond-ind (λ (n : ℕ). n ≤ mostTransfer + mostCopy) (eqb x y) 0 (cond (isWrite (e .way)) out back * chargedOf kind + copyOf (cloud d x) kind)
+      (λ _. zero-le) (λ _. add-le-add (mul-le-mul rate (charged-most kind fits)) (copy-most (cloud d x) (r .rates x) kind fits))
 
   pub edge-small : (e : Edge) (x y : ℕ) → edgeTerm d e x y < termLimit
   unfolding edgeTerm

@@ -2,6 +2,7 @@ pub mod BlockCosts
 pub mod Charges
 pub mod CostBound
 pub mod EdgeCosts
+pub mod Priced
 pub mod Rounding
 pub mod Sides
 pub mod Transferring

@@ -3,7 +3,7 @@ use Prim.Native.Nat.{ℕ, suc, _+_, _*_, _≤_, _<_, zero-le}
 use native.Mathlib.Nat.{suc-mul, zero-mul}
 use native.Mathlib.Numerals.{add-one}
 use native.Mathlib.Omega.{arith}
-use mathlib.Core.Path.{_≡_, refl, sym, ap, _∙_}
+use mathlib.Core.Path.{_≡_, refl, sym, ap, ap₂, _∙_}
 use mathlib.Core.Bool.{Bool, true, false, cond}
 use mathlib.Core.List.{List, [], _∷_, _++_, map, append-nil, append-assoc}
 use lib.ListN.{length, getD, take, drop, length-append, take-append-drop, drop-of-length-le}
@@ -11,12 +11,13 @@ use borrow.Author.Tests.{lt-ltb, le-ltb}
 use lib.Seq.{sets, sets-eq, length-sets, length-take-le, take-at, drop-at, drop-drop}
 use Rattle.description.specs.declared.workflow.Edge.{Edge}
 use Rattle.description.specs.Format.{Description, noEdge}
-use Rattle.costs.specs.Cost.{transferCost, edgeCost}
+use Rattle.costs.specs.Cost.{transferCost, copyCost, edgeCost}
 use Rattle.security.specs.Placements.{moves}
 use Rattle.costs.specs.Transfers.{Transfer, transferOf, transfersFrom, transfers, bytesOf, fitted, bufferAfter}
 use Rattle.sequences.specs.Results.{ok, refused}
 use Rattle.sequences.specs.Lists.{sum}
 use Rattle.sequences.proofs.Loops.{rest}
+use Rattle.sequences.proofs.Numbers.{sum-both}
 use Rattle.sequences.proofs.Tests.{cond-ind}
 
 -- the edge's own transfer, if it makes one, comes before those of the edges behind it
@@ -134,15 +135,30 @@ pub refused-leaves : (number place : ℕ) (buffer : List ℕ) → bufferAfter (r
 unfolding bufferAfter
 refused-leaves number place buffer = refl
 
--- what the transfers cost is summed edge by edge: a transfer's cost does not go by the edge's number
-pub transfers-by-edge : (d : Description) (p : List ℕ) (n : ℕ) (es : List Edge)
-    → sum (map (transferCost d) (transfersFrom n p es)) ≡ sum (map (edgeCost d p) es)
-unfolding edgeCost
-transfers-by-edge d p n [] = refl
-transfers-by-edge d p n (e ∷ es) = step (moves p e) (transfers-by-edge d p (suc n) es)
+-- what goes by a transfer, but not by the edge's number, is summed edge by edge
+pub by-edge : (f : Transfer → ℕ) (p : List ℕ) → ((n : ℕ) (e : Edge) → f (transferOf n p e) ≡ f (transferOf 0 p e)) → (n : ℕ) (es : List Edge)
+    → sum (map f (transfersFrom n p es)) ≡ sum (map (λ e. cond (moves p e) (f (transferOf 0 p e)) 0) es)
+by-edge f p any n [] = refl
+by-edge f p any n (e ∷ es) = step (moves p e) (by-edge f p any (suc n) es)
   where
-    step : (t : Bool) → sum (map (transferCost d) (transfersFrom (suc n) p es)) ≡ sum (map (edgeCost d p) es)
-        → sum (map (transferCost d) (cond t (transferOf n p e ∷ transfersFrom (suc n) p es) (transfersFrom (suc n) p es)))
-        ≡ cond t (transferCost d (transferOf 0 p e)) 0 + sum (map (edgeCost d p) es)
-    step true h = omega (arith, h)
+    others : ℕ
+    others = sum (map (λ e. cond (moves p e) (f (transferOf 0 p e)) 0) es)
+
+    step : (t : Bool) → sum (map f (transfersFrom (suc n) p es)) ≡ others
+        → sum (map f (cond t (transferOf n p e ∷ transfersFrom (suc n) p es) (transfersFrom (suc n) p es))) ≡ cond t (f (transferOf 0 p e)) 0 + others
+    step true h = ap₂ _+_ (any n e) h
     step false h = omega (arith, h)
+
+-- so are transfers with their copies
+pub transfers-by-edge : (d : Description) (p : List ℕ)
+    → sum (map (transferCost d) (transfers d p)) + sum (map (copyCost d) (transfers d p)) ≡ sum (map (edgeCost d p) (d .edges))
+unfolding edgeCost transfers
+transfers-by-edge d p =
+    sym (sum-both (transferCost d) (copyCost d) (transfersFrom 0 p (d .edges))) ∙
+    by-edge (λ t. transferCost d t + copyCost d t) p (λ n e. refl) 0 (d .edges)
+
+-- and the copies by themselves
+pub copies-by-edge : (d : Description) (p : List ℕ)
+    → sum (map (copyCost d) (transfers d p)) ≡ sum (map (λ e. cond (moves p e) (copyCost d (transferOf 0 p e)) 0) (d .edges))
+unfolding transfers
+copies-by-edge d p = by-edge (copyCost d) p (λ n e. refl) 0 (d .edges)

@@ -5,8 +5,8 @@ use Rattle.description.specs.declared.workflow.Kind.{Kind}
 use Rattle.costs.specs.declared.answers.Transferred.{Transferred}
 use Rattle.costs.specs.declared.answers.Transferred.the-variants.{Count, Refused}
 use Rattle.costs.specs.declared.answers.Charge.{Charge}
-use Rattle.costs.specs.declared.answers.Charge.the-variants.{Storage, Cpu}
-use Rattle.costs.specs.Cost.{storageOf, cpuOf}
+use Rattle.costs.specs.declared.answers.Charge.the-variants.{Storage, Copy, Cpu}
+use Rattle.costs.specs.Cost.{storageOf, copyOf, cpuOf}
 use Rattle.sequences.specs.Results.{Result, ok, refused}
 
 -- Transfers: how many, or a refusal with its number and place
@@ -14,7 +14,8 @@ abbrev pub transfersAnswer : Transferred → Result ℕ
 transfersAnswer (Count n) = ok n
 transfersAnswer (Refused r) = refused (r .number) (r .place)
 
--- the two charges on a block, by name
+-- the charges on a block, by name
 abbrev pub amountOf : Charge → Cloud → Kind → ℕ
 amountOf Storage = storageOf
+amountOf Copy = copyOf
 amountOf Cpu = cpuOf

@@ -1,4 +1,5 @@
--- What a placement costs: three amounts, for storage, transfers and computing, which are its bill, and their sum.
+-- What a placement costs: three amounts, for storage (the data and the copies of them), transfers and computing, which are its bill, and
+-- their sum.
 use Prim.Native.Nat.{ℕ, _+_, _-_, _*_, _/_, _%_, _≤_, _<_}
 use mathlib.Core.Path.{_≡_}
 use mathlib.Core.Bool.{cond}
@@ -30,26 +31,41 @@ pub record Nearest (size g : ℕ) : Type 0 where
   pub within : difference (10 * g) size ≤ 5
   pub half : difference (10 * g) size ≡ 5 → g % 2 ≡ 0
 
+-- what of a block the rates are multiplied by: its gigabytes, these for each month of its longevity, the units of its computing
 abbrev pub chargedOf : Kind → ℕ
 chargedOf (Datum size longevity) = gigabytes size
 chargedOf (Service clearance units) = 0
 
+abbrev pub monthsOf : Kind → ℕ
+monthsOf (Datum size longevity) = gigabytes size * longevity
+monthsOf (Service clearance units) = 0
+
+abbrev pub unitsOf : Kind → ℕ
+unitsOf (Datum size longevity) = 0
+unitsOf (Service clearance units) = units
+
 -- a datum is stored on its cloud, for its longevity; a service computes on its cloud
 abbrev pub storageOf : Cloud → Kind → ℕ
-storageOf c (Datum size longevity) = c .storage * gigabytes size * longevity
-storageOf c (Service clearance units) = 0
+storageOf c k = c .storage * monthsOf k
 
 abbrev pub cpuOf : Cloud → Kind → ℕ
-cpuOf c (Datum size longevity) = 0
-cpuOf c (Service clearance units) = c .cpu * units
+cpuOf c k = c .cpu * unitsOf k
+
+-- a copy is stored on its own cloud, for one month, whatever the datum's longevity
+abbrev pub copyOf : Cloud → Kind → ℕ
+copyOf c k = c .storage * chargedOf k
 
 -- the source charges its out rate and the destination its in rate
 abbrev pub transferCost : Description → Transfer → ℕ
 transferCost d t = (cloud d (t .source) .outward + cloud d (t .destination) .inward) * chargedOf (block d (t .datum) .kind)
 
--- what the transfer on an edge costs, 0 where there is none; the edge's number has no part in it
+-- the copy that a transfer makes is charged by the cloud on which it lies
+abbrev pub copyCost : Description → Transfer → ℕ
+copyCost d t = copyOf (cloud d (t .copy)) (block d (t .datum) .kind)
+
+-- what the transfer on an edge costs with its copy, 0 where there is none; the edge's number has no part in it
 unfoldable pub edgeCost : Description → List ℕ → Edge → ℕ
-edgeCost d p e = cond (moves p e) (transferCost d (transferOf 0 p e)) 0
+edgeCost d p e = cond (moves p e) (transferCost d (transferOf 0 p e) + copyCost d (transferOf 0 p e)) 0
 
 -- an amount for block b on its cloud, and for all blocks, summed
 abbrev pub ofBlock : (Cloud → Kind → ℕ) → Description → List ℕ → ℕ → ℕ
@@ -58,9 +74,9 @@ ofBlock amount d p b = amount (cloud d (getD p b 0)) (block d b .kind)
 abbrev pub ofBlocks : (Cloud → Kind → ℕ) → Description → List ℕ → ℕ
 ofBlocks amount d p = sum (map (ofBlock amount d p) (below (length (d .blocks))))
 
--- the three amounts: what is paid for storing the data, for the transfers, for the services' computing
+-- the three amounts: what is paid for storing the data and the copies, for the transfers, for the services' computing
 abbrev pub storageAmount : Description → List ℕ → ℕ
-storageAmount d p = ofBlocks storageOf d p
+storageAmount d p = ofBlocks storageOf d p + sum (map (copyCost d) (transfers d p))
 
 abbrev pub transferAmount : Description → List ℕ → ℕ
 transferAmount d p = sum (map (transferCost d) (transfers d p))

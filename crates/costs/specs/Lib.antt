@@ -1,4 +1,5 @@
 pub mod Answers
 pub mod Cost
+pub mod Prices
 pub mod Terms
 pub mod Transfers

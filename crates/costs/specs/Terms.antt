@@ -13,18 +13,19 @@ use Rattle.description.specs.Format.{Description, cloud, block, isWrite}
 use Rattle.security.specs.Soundness.{covers, cloudLevel, blockLevel}
 use Rattle.weights.specs.Weights.{firstPenalty, secondPenalty}
 use Rattle.security.specs.Placements.{serviceCloud, datumCloud, broken16, broken17}
-use Rattle.costs.specs.Cost.{chargedOf, storageOf, cpuOf}
+use Rattle.costs.specs.Cost.{chargedOf, storageOf, cpuOf, copyOf}
 use Rattle.sequences.specs.Lists.{below, sum}
 
 -- what block b is charged on cloud k: storage or computing
 unfoldable pub blockTerm : Description → (b k : ℕ) → ℕ
 blockTerm d b k = storageOf (cloud d k) (block d b .kind) + cpuOf (cloud d k) (block d b .kind)
 
--- what the transfer of an edge is charged where its service stands on x and its datum on y; 0 where it makes none
+-- what the transfer of an edge and its copy are charged where its service stands on x and its datum on y; 0 where it makes none
 abbrev pub edgeCharge : Description → Edge → (x y : ℕ) → ℕ
 edgeCharge d e x y =
     cond (eqb x y) 0
-    (cond (isWrite (e .way)) (cloud d x .outward + cloud d y .inward) (cloud d y .outward + cloud d x .inward) * chargedOf (block d (e .datum) .kind))
+    (cond (isWrite (e .way)) (cloud d x .outward + cloud d y .inward) (cloud d y .outward + cloud d x .inward) * chargedOf (block d (e .datum) .kind) +
+    copyOf (cloud d x) (block d (e .datum) .kind))
 
 -- its copy there lies on a cloud below the datum's level
 abbrev pub edgeExposes : Description → Edge → (x y : ℕ) → Bool
@@ -38,10 +39,10 @@ penalty way = cond (isWrite way) secondPenalty firstPenalty
 unfoldable pub edgeTerm : Description → Edge → (x y : ℕ) → ℕ
 edgeTerm d e x y = edgeCharge d e x y + cond (edgeExposes d e x y) (penalty (e .way)) 0
 
--- what each end of an edge adds by its own cloud, where the two stand apart: the service's with the penalty, and the datum's
+-- what each end of an edge adds by its own cloud, where the two stand apart: the service's with the copy and the penalty, and the datum's
 unfoldable pub serviceSide : Way → Cloud → Block → ℕ
 serviceSide way c datum =
-    cond (isWrite way) (c .outward) (c .inward) * chargedOf (datum .kind) + cond (covers (c .level) (datum .level)) 0 (penalty way)
+    (cond (isWrite way) (c .outward) (c .inward) + c .storage) * chargedOf (datum .kind) + cond (covers (c .level) (datum .level)) 0 (penalty way)
 
 unfoldable pub datumSide : Way → Cloud → Block → ℕ
 datumSide way c datum = cond (not (isWrite way)) (c .outward) (c .inward) * chargedOf (datum .kind)

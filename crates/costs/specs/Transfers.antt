@@ -16,14 +16,16 @@ source p e = cond (isWrite (e .way)) (serviceCloud p e) (datumCloud p e)
 abbrev pub destination : List ℕ → Edge → ℕ
 destination p e = cond (isWrite (e .way)) (datumCloud p e) (serviceCloud p e)
 
+-- the copy that it makes lies on the service's cloud: where a read takes the datum to, and where a write takes it from
 pub record Transfer : Type 0 where
   pub edge : ℕ
   pub datum : ℕ
   pub source : ℕ
   pub destination : ℕ
+  pub copy : ℕ
 
 abbrev pub transferOf : ℕ → List ℕ → Edge → Transfer
-transferOf n p e = record { edge = n; datum = e .datum; source = source p e; destination = destination p e }
+transferOf n p e = record { edge = n; datum = e .datum; source = source p e; destination = destination p e; copy = serviceCloud p e }
 
 -- of edges that are numbered from n on: one for each that moves its datum
 abbrev pub transfersFrom : ℕ → List ℕ → List Edge → List Transfer

@@ -6,9 +6,10 @@ pub enum Transferred {
     Refused(Refusal),
 }
 
-// What a block is charged for on its cloud.
+// What a block is charged for on a cloud: a datum for its storage or for that of a copy, a service for its computing.
 pub enum Charge {
     Storage,
+    Copy,
     Cpu,
 }
 

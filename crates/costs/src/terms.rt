@@ -1,8 +1,9 @@
 // What one block and one edge add to a placement's weight, from where their blocks stand.
 ghost use mathlib.Core.Path.{_≡_};
 ghost use mathlib.Core.Bool.{cond};
-ghost use Prim.Native.Nat.{_^_, _≤_, _<_};
+ghost use Prim.Native.Nat.{_+_, _^_, _≤_, _<_};
 ghost use Rattle.weights.specs.Weights.{secondPenalty, termLimit};
+ghost use Rattle.description.specs.Format.{isWrite};
 ghost use Rattle.description.specs.Meaning.{describes};
 ghost use Rattle.costs.specs.Terms.{blockTerm, penalty, serviceSide, datumSide};
 ghost use Rattle.security.specs.Soundness.{covers};
@@ -56,13 +57,24 @@ fn rate_at(out: bool, cloud: Cloud) -> u64
     cloud.inward as u64
 }
 
+// The same at the service's end, and a month of the copy that lies there.
+fn service_rate(way: Way, cloud: Cloud) -> u64
+    ensures { λ r. ⌜ r ≡ cond (isWrite way) (cloud .outward) (cloud .inward) + cloud .storage ⌝ }
+    ensures { λ r. ⌜ r ≤ 131070 ⌝ }
+{
+    if is_write(way) {
+        return cloud.outward as u64 + cloud.storage as u64;
+    }
+    cloud.inward as u64 + cloud.storage as u64
+}
+
 // What an edge adds by the cloud of its service alone, where its datum stands on another.
 pub fn service_side(way: Way, cloud: Cloud, datum: Block) -> u64
     ensures { λ r. ⌜ r ≡ serviceSide way cloud datum ⌝ }
     ensures { λ r. ⌜ r < termLimit ⌝ }
 {
     let kind = datum.kind;
-    rate_at(is_write(way), cloud) * charged_of(kind) + exposed(way, cloud, datum)
+    service_rate(way, cloud) * charged_of(kind) + exposed(way, cloud, datum)
 }
 
 // What it adds by the cloud of its datum alone.

@@ -42,10 +42,10 @@ pub record Examples : Type 0 where
   pub ten : decimal 10 ≡ ascii "10"
   pub largest : decimal (2 ^ 64 - 1) ≡ ascii "18446744073709551615"
   pub row : rowLine 2820 (1 ∷ 1 ∷ 1 ∷ 1 ∷ 1 ∷ 0 ∷ 0 ∷ 0 ∷ 0 ∷ 0 ∷ 0 ∷ 0 ∷ 0 ∷ 0 ∷ 0 ∷ 0 ∷ []) 5 1320 0 1500 ≡ ascii "2820 11111 1320 0 1500\n"
-  pub nextRow : rowLine 2840 (1 ∷ 1 ∷ 1 ∷ 1 ∷ 0 ∷ 0 ∷ 0 ∷ 0 ∷ 0 ∷ 0 ∷ 0 ∷ 0 ∷ 0 ∷ 0 ∷ 0 ∷ 0 ∷ []) 5 1320 20 1500 ≡ ascii "2840 11110 1320 20 1500\n"
+  pub nextRow : rowLine 2850 (1 ∷ 1 ∷ 1 ∷ 1 ∷ 0 ∷ 0 ∷ 0 ∷ 0 ∷ 0 ∷ 0 ∷ 0 ∷ 0 ∷ 0 ∷ 0 ∷ 0 ∷ 0 ∷ []) 5 1330 20 1500 ≡ ascii "2850 11110 1330 20 1500\n"
   -- the same two rows as words; four words behind them are no row
-  pub rows : linesOf 5 (2820 ∷ 4681 ∷ 1320 ∷ 0 ∷ 1500 ∷ 2840 ∷ 4680 ∷ 1320 ∷ 20 ∷ 1500 ∷ 2860 ∷ 4679 ∷ 1320 ∷ 40 ∷ [])
-      ≡ ascii "2820 11111 1320 0 1500\n2840 11110 1320 20 1500\n"
+  pub rows : linesOf 5 (2820 ∷ 4681 ∷ 1320 ∷ 0 ∷ 1500 ∷ 2850 ∷ 4680 ∷ 1330 ∷ 20 ∷ 1500 ∷ 2860 ∷ 4679 ∷ 1320 ∷ 40 ∷ [])
+      ≡ ascii "2820 11111 1320 0 1500\n2850 11110 1330 20 1500\n"
   pub options : optionsLine 6 ≡ ascii "options 6\n"
   pub refusal : refusalLine 14 0 ≡ ascii "refused 14 0\n"
   -- the bytes of two texts, written out

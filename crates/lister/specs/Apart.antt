@@ -13,7 +13,7 @@ pub record Apart : Type 0 where
   -- the counts of Read stay
   pub counts : readCall mApart ≡ accepted 2 5 4
   -- a single row is left
-  pub single : andThen (read mApart) (λ d. ok (rows d)) ≡ ok (row 2920 (place 1 1 0 0 0) 1320 100 1500 ∷ [])
+  pub single : andThen (read mApart) (λ d. ok (rows d)) ≡ ok (row 2970 (place 1 1 0 0 0) 1370 100 1500 ∷ [])
   -- 16 = 8 + 0 + 6 + 2
   pub figures : censusCall mApart ≡
       ok (record { candidates = 16; breaking16 = 8; breaking17only = 0; apartonly = 6; secure = 2; options = 1 })

@@ -24,8 +24,8 @@ row cost placement storage transfer cpu =
 -- M's six rows
 abbrev pub rowsOfM : List Row
 rowsOfM =
-    row 2820 (place 1 1 1 1 1) 1320 0 1500 ∷ row 2840 (place 1 1 1 1 0) 1320 20 1500 ∷ row 2920 (place 1 1 0 0 0) 1320 100 1500 ∷
-    row 2940 (place 1 1 0 0 1) 1320 120 1500 ∷ row 3020 (place 1 1 0 1 1) 1320 200 1500 ∷ row 3040 (place 1 1 0 1 0) 1320 220 1500 ∷ []
+    row 2820 (place 1 1 1 1 1) 1320 0 1500 ∷ row 2850 (place 1 1 1 1 0) 1330 20 1500 ∷ row 2970 (place 1 1 0 0 0) 1370 100 1500 ∷
+    row 3000 (place 1 1 0 0 1) 1380 120 1500 ∷ row 3120 (place 1 1 0 1 1) 1420 200 1500 ∷ row 3150 (place 1 1 0 1 0) 1430 220 1500 ∷ []
 
 -- one cloud at level 0 with one datum at level 1
 abbrev pub homeless : List ℕ

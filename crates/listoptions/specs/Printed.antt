@@ -27,8 +27,8 @@ printed s = printedFor (read s)
 
 -- worked examples: the interview file, the same with two data apart, the end alone, and no input at all
 pub record Examples : Type 0 where
-  pub interview : printed m ≡ ascii "2820 11111 1320 0 1500\n2840 11110 1320 20 1500\n2920 11000 1320 100 1500\n" ++
-      ascii "2940 11001 1320 120 1500\n3020 11011 1320 200 1500\n3040 11010 1320 220 1500\noptions 6\n"
-  pub apart : printed mApart ≡ ascii "2920 11000 1320 100 1500\noptions 1\n"
+  pub interview : printed m ≡ ascii "2820 11111 1320 0 1500\n2850 11110 1330 20 1500\n2970 11000 1370 100 1500\n" ++
+      ascii "3000 11001 1380 120 1500\n3120 11011 1420 200 1500\n3150 11010 1430 220 1500\noptions 6\n"
+  pub apart : printed mApart ≡ ascii "2970 11000 1370 100 1500\noptions 1\n"
   pub endAlone : printed (0 ∷ []) ≡ ascii "refused 8 1\n"
   pub nothing : printed [] ≡ ascii "refused 1 0\n"

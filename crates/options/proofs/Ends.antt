@@ -1,5 +1,5 @@
 -- The only data that can move within an option: those with a writer on one cloud and one reader on another, from the one to the other.
--- Only their storage changes.
+-- Only their storage changes, and which end has the copy.
 use Prim.Native.Nat.{ℕ, _+_, _*_, _≤_}
 use native.Mathlib.Omega.{arith}
 use mathlib.Core.Path.{_≡_, refl, sym, ap, _∙_}
@@ -15,9 +15,9 @@ use Rattle.description.specs.declared.workflow.Edge.{Edge}
 use Rattle.description.specs.Format.{Description, block, cloud, noEdge, isDatum, isWrite}
 use Rattle.description.specs.Invariants.{WellFormed}
 use Rattle.security.specs.Placements.{serviceCloud, datumCloud, moves}
-use Rattle.costs.specs.Cost.{chargedOf, edgeCost}
+use Rattle.costs.specs.Cost.{chargedOf, copyOf, edgeCost}
 use Rattle.options.specs.Options.{writersOf, readersOf, stem, branch, joined, part, partOf}
-use Rattle.options.specs.Representatives.{dataOf, storedOn, share, between, movesTo, SameServices}
+use Rattle.options.specs.Representatives.{dataOf, storedOn, keptOn, share, between, movesTo, SameServices}
 use Rattle.options.proofs.Locality.{data-are, edge-service, edge-datum}
 use Rattle.security.proofs.Moves.{moves-apart}
 use Rattle.costs.proofs.EdgeCosts.{edge-cost}
@@ -33,9 +33,12 @@ use Rattle.sequences.proofs.Lexicographic.{before-plus}
 
 -- ---- a datum with one writer and one reader
 
--- what carrying datum n from one cloud to another costs
+-- what carrying datum n from one cloud to another costs, and a copy of it
 abbrev carry : Description → ℕ → ℕ → ℕ → ℕ
 carry d n from to = (cloud d from .outward + cloud d to .inward) * chargedOf (block d n .kind)
+
+abbrev copyOn : Description → ℕ → ℕ → ℕ
+copyOn d n k = copyOf (cloud d k) (block d n .kind)
 
 -- a stem and a branch of one edge, where the edge's service is on the datum's cloud and where it isn't
 lead-away : (t : Bool) (f : Edge → ℕ) (e : Edge) → map f (cond (not t) (e ∷ []) []) ≡ cond t [] (f e ∷ [])
@@ -83,14 +86,16 @@ module _ (d : Description) (w : WellFormed d) (p q : List ℕ) (same : SameServi
   one-part : (k : Kind) → isDatum k ≡ true → part d q n k ≡ path (serviceCloud p x) (serviceCloud p y) (getD q n 0) ∷ []
   one-part k t = datum-part d q n k t ∙ (rw (writers, readers, writer-lead, reader-tip) refl)
 
-  writer-cost : edgeCost d q x ≡ cond (eqb (serviceCloud p x) (getD q n 0)) 0 (carry d n (serviceCloud p x) (getD q n 0))
+  writer-cost : edgeCost d q x ≡
+      cond (eqb (serviceCloud p x) (getD q n 0)) 0 (carry d n (serviceCloud p x) (getD q n 0) + copyOn d n (serviceCloud p x))
   writer-cost = edge-cost d q x ∙ (rw (writer-is .1, writer-is .2, writer-cloud) refl)
 
-  reader-cost : edgeCost d q y ≡ cond (eqb (serviceCloud p y) (getD q n 0)) 0 (carry d n (getD q n 0) (serviceCloud p y))
+  reader-cost : edgeCost d q y ≡
+      cond (eqb (serviceCloud p y) (getD q n 0)) 0 (carry d n (getD q n 0) (serviceCloud p y) + copyOn d n (serviceCloud p y))
   reader-cost = edge-cost d q y ∙ (rw (reader-is .1, reader-is .2, reader-cloud) refl)
 
-  -- its share is its storage, and what the two edges carry
-  one-share : share d q n ≡ storedOn d n (getD q n 0) + carried (carry d n) (serviceCloud p x) (serviceCloud p y) (getD q n 0)
+  -- its share is its storage, and what the two edges carry and copy
+  one-share : share d q n ≡ storedOn d n (getD q n 0) + carried (carry d n) (copyOn d n) (serviceCloud p x) (serviceCloud p y) (getD q n 0)
   unfolding share
   one-share =
       let split = rw (writers, readers) at (sum-split (λ e. isWrite (e .way)) (λ e. eqb (e .datum) n) (edgeCost d q) (d .edges)) in
@@ -195,12 +200,15 @@ module _ (d : Description) (w : WellFormed d) where
     pub moves-to : (movesTo d p n ≡ some (getD q n 0)) ↔ ((getD p n 0 ≡ getD q n 0 → ⊥) × (partOf d q n ≡ partOf d p n))
     moves-to = (λ e. (moves-away e, moves-part e), λ h. part-moves (h .0) (h .1))
 
-    -- By its shares on both, or by its storage alone: the order is the same.
+    -- By its shares on both, or by its storage there and the copy on the other end: the order is the same.
     pub moves-cost : movesTo d p n ≡ some (getD q n 0) → (ks ls : List ℕ)
-        → before (share d q n ∷ ks) (share d p n ∷ ls) ≡ before (storedOn d n (getD q n 0) ∷ ks) (storedOn d n (getD p n 0) ∷ ls)
+        → before (share d q n ∷ ks) (share d p n ∷ ls) ≡ before (keptOn d n (getD q n 0) (getD p n 0) ∷ ks) (keptOn d n (getD p n 0) (getD q n 0) ∷ ls)
     moves-cost e ks ls =
         let record { writer = x; reader = y; writers = ew; readers = er; ends = ends } = ends-of d p n (getD q n 0) .0 e in
-        let a = serviceCloud p x in
-        let s = serviceCloud p y in
-        rw (one-share d w p q services n x y ew er, one-share d w p p ours n x y ew er, end-carried (carry d n) a s (getD p n 0) (getD q n 0) ends)
-        (before-plus (storedOn d n (getD q n 0)) (storedOn d n (getD p n 0)) (carried (carry d n) a s (getD p n 0)) ks ls)
+        let b = getD p n 0 in
+        let k = getD q n 0 in
+        let carries = carry d n (serviceCloud p x) (serviceCloud p y) in
+        let (here, there) = end-carried (carry d n) (copyOn d n) (serviceCloud p x) (serviceCloud p y) b k ends in
+        let moved : share d q n ≡ keptOn d n k b + carries = omega (arith, one-share d w p q services n x y ew er, there) in
+        let stays : share d p n ≡ keptOn d n b k + carries = omega (arith, one-share d w p p ours n x y ew er, here) in
+        rw (moved, stays) (before-plus (keptOn d n k b) (keptOn d n b k) carries ks ls)

@@ -1,38 +1,39 @@
--- The test by storage in the words of its definition, and that what has a writer is a datum.
+-- The test by exchanges in the words of its definition, and what it comes to for data that are kept for a month or not at all.
 use Prim.Native.Nat.{ℕ}
+use native.Mathlib.Nat.{mul-one, mul-zero, zero-add}
+use native.Mathlib.Omega.{arith}
 use mathlib.Core.Path.{_≡_, refl}
-use mathlib.Core.Bool.{true, not, _&&_}
-use mathlib.Core.List.{List, [], _∷_, List·Memᴰ}
-use lib.Dec.{eqb}
+use mathlib.Core.Bool.{not, _&&_}
+use mathlib.Core.List.{List, [], _∷_}
 use lib.ListN.{length, getD}
-use borrow.Author.Tests.{eqb-true}
-use Rattle.description.specs.declared.workflow.Edge.{Edge}
-use Rattle.description.specs.Format.{Description, block, isDatum, isWrite}
-use Rattle.description.specs.Invariants.{WellFormed}
+use Rattle.description.specs.declared.workflow.Kind.the-variants.{Datum}
+use Rattle.description.specs.Format.{Description, cloud, block}
 use Rattle.security.specs.Soundness.{mayStand}
+use Rattle.costs.specs.Cost.{gigabytes, copyOf}
 use Rattle.options.specs.Options.{writersOf, readersOf}
-use Rattle.options.specs.Representatives.{storedOn, between, movesTo, exchanges, cheaperOn, standsByStorage}
-use Rattle.options.proofs.Locality.{data-are, edge-datum}
+use Rattle.options.specs.Representatives.{keptOn, between, movesTo, exchanges, cheaperOn, standsByExchanges}
 use Rattle.sequences.specs.Lists.{any, below, before}
-use Rattle.sequences.proofs.Members.{keep-members}
-use Rattle.sequences.proofs.Tests.{both-pass}
 
 module _ (d : Description) where
   pub moves-between : (p : List ℕ) (n : ℕ) → movesTo d p n ≡ between p (getD p n 0) (writersOf d n) (readersOf d n)
   unfolding movesTo
   moves-between p n = refl
 
-  pub exchanges-are : (n h k : ℕ) → exchanges d n h k ≡ (mayStand d n k && before (storedOn d n k ∷ k ∷ []) (storedOn d n h ∷ h ∷ []))
+  pub exchanges-are : (n h k : ℕ) → exchanges d n h k ≡ (mayStand d n k && before (keptOn d n k h ∷ k ∷ []) (keptOn d n h k ∷ h ∷ []))
   unfolding exchanges
   exchanges-are n h k = refl
 
-  pub stands-by-storage : (p : List ℕ) → standsByStorage d p ≡ not (any (λ n. cheaperOn d p n (movesTo d p n)) (below (length (d .blocks))))
-  unfolding standsByStorage
-  stands-by-storage p = refl
+  pub stands-by-exchanges : (p : List ℕ) → standsByExchanges d p ≡ not (any (λ n. cheaperOn d p n (movesTo d p n)) (below (length (d .blocks))))
+  unfolding standsByExchanges
+  stands-by-exchanges p = refl
 
-  -- what has a writer is a datum
-  pub written-datum : WellFormed d → (n : ℕ) (e : Edge) → List·Memᴰ e (writersOf d n) → isDatum (block d n .kind) ≡ true
-  written-datum w n e m =
-      let (there, writes) = keep-members (λ f. isWrite (f .way) && eqb (f .datum) n) (d .edges) e .0 m in
-      let here = eqb-true (e .datum) n (both-pass (isWrite (e .way)) (eqb (e .datum) n) .0 writes .1) in
-      rw (← here) (data-are d (e .datum) .0 (edge-datum d w e there) .1)
+  -- of a datum that is kept for one month both ends cost the same: the lower cloud wins
+  pub month-ties : (n size h k : ℕ) → block d n .kind ≡ Datum size 1 → keptOn d n k h ≡ keptOn d n h k
+  month-ties n size h k e =
+      let g = gigabytes size in
+      let there = mul-one g in
+      rw (e, there) (omega arith)
+
+  -- of one that is not kept at all the copy alone counts: it wins on the end that is dearer, where it leaves the copy on the other
+  pub unkept-copies : (n size h k : ℕ) → block d n .kind ≡ Datum size 0 → keptOn d n k h ≡ copyOf (cloud d h) (block d n .kind)
+  unkept-copies n size h k e = rw e (simp (mul-zero, zero-add))

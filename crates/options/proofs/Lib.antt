@@ -2,10 +2,10 @@ pub mod Conflicts
 pub mod Ends
 pub mod Exchanges
 pub mod Holding
+pub mod LocalExchanges
 pub mod Locality
 pub mod Mixing
 pub mod Moving
 pub mod Options
 pub mod Paths
 pub mod Representatives
-pub mod Storage

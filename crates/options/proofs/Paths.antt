@@ -1,5 +1,5 @@
 -- The path of what stands on cloud o, with one writer on a and one reader on s: a, o and s without repetitions. It is the same on two
--- clouds only where these are a and s; and what the two edges carry costs the same on both.
+-- clouds only where these are a and s. From either the two edges carry at the same cost, and leave a copy on the other.
 use Prim.Native.Nat.{ℕ, _+_}
 use native.Mathlib.Decide.{ℕ-discrete}
 use native.Mathlib.Omega.{arith}
@@ -73,13 +73,20 @@ path-ends a s b k f e = go (ℕ-discrete s k) (ℕ-discrete s b) (ℕ-discrete a
     go (yes sk) (no sb) (yes ak) (no ab) = let z = rw (eq-eqb s k sk, ne-eqb s b sb, eq-eqb a k ak, ne-eqb a b ab) at sizes in absurd (omega arith)
     go (yes sk) (no sb) (no ak) (no ab) = let z = rw (eq-eqb s k sk, ne-eqb s b sb, ne-eqb a k ak, ne-eqb a b ab) at sizes in absurd (omega arith)
 
--- on both ends the transfers cost the same, whatever one costs from cloud to cloud
-module _ (carry : ℕ → ℕ → ℕ) where
+-- on both ends there is one transfer from the writer's cloud to the reader's, whatever it costs, and one copy, on the other end
+module _ (carry : ℕ → ℕ → ℕ) (copy : ℕ → ℕ) where
   abbrev pub carried : (a s o : ℕ) → ℕ
-  carried a s o = cond (eqb a o) 0 (carry a o) + cond (eqb s o) 0 (carry o s)
+  carried a s o = cond (eqb a o) 0 (carry a o + copy a) + cond (eqb s o) 0 (carry o s + copy s)
 
-  pub end-carried : (a s b k : ℕ) → otherEnd a s b ≡ some k → carried a s k ≡ carried a s b
-  end-carried a s b k = ends-agree (carried a s) a s b k turned
-    where
-      turned : (a ≡ s → ⊥) → carried a s s ≡ carried a s a
-      turned apart = rw (ne-eqb a s apart, ne-eqb s a (λ z. apart (sym z)), eq-eqb s s refl, eq-eqb a a refl) (omega arith)
+  -- where it stands with the writer, where it stands with the reader
+  with-writer : (a s : ℕ) → (a ≡ s → ⊥) → carried a s a ≡ carry a s + copy s
+  with-writer a s apart = rw (eq-eqb a a refl, ne-eqb s a (λ z. apart (sym z))) (omega arith)
+
+  with-reader : (a s : ℕ) → (a ≡ s → ⊥) → carried a s s ≡ carry a s + copy a
+  with-reader a s apart = rw (ne-eqb a s apart, eq-eqb s s refl) (omega arith)
+
+  pub end-carried : (a s b k : ℕ) → otherEnd a s b ≡ some k → (carried a s b ≡ carry a s + copy k) × (carried a s k ≡ carry a s + copy b)
+  end-carried a s b k e = let (apart, ends) = other-end a s b k e in elim ends [
+    | inl (ba, ks) ↦ rw (ba, ks) (with-writer a s apart, with-reader a s apart)
+    | inr (bs, ka) ↦ rw (bs, ka) (with-reader a s apart, with-writer a s apart)
+  ]

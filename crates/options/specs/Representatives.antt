@@ -11,7 +11,7 @@ use Rattle.description.specs.declared.workflow.Edge.{Edge}
 use Rattle.description.specs.Format.{Description, block, cloud, isDatum, namesService}
 use Rattle.security.specs.Soundness.{mayStand, candidates}
 use Rattle.security.specs.Placements.{serviceCloud, secure}
-use Rattle.costs.specs.Cost.{storageOf, edgeCost, cost}
+use Rattle.costs.specs.Cost.{storageOf, copyOf, edgeCost, cost}
 use Rattle.options.specs.Options.{writersOf, readersOf, partOf, sameOption}
 use Rattle.sequences.specs.Lists.{any, keep, below, sum, equalBy, same, before, otherEnd}
 
@@ -28,7 +28,7 @@ edgesOf d n = keep (λ e. eqb (e .datum) n) (d .edges)
 abbrev pub storedOn : Description → ℕ → ℕ → ℕ
 storedOn d n k = storageOf (cloud d k) (block d n .kind)
 
--- a datum's share: its storage, and the transfers on its edges
+-- a datum's share: its storage, and the transfers on its edges with their copies
 unfoldable pub share : Description → List ℕ → ℕ → ℕ
 share d p n = storedOn d n (getD p n 0) + sum (map (edgeCost d p) (edgesOf d n))
 
@@ -45,7 +45,7 @@ betterOn d p n k =
 unfoldable pub standsLocally : Description → List ℕ → Bool
 standsLocally d p = not (any (λ n. any (betterOn d p n) (below 8)) (dataOf d))
 
--- ---- the same test by storage alone
+-- ---- the same test by what an exchange of two ends changes
 
 -- of what stands on b, by its writers and readers: where there is one of each, they are the two ends
 abbrev pub between : List ℕ → ℕ → (writers readers : List Edge) → Option ℕ
@@ -60,28 +60,32 @@ between p b (w ∷ []) (r ∷ []) = otherEnd (serviceCloud p w) (serviceCloud p 
 unfoldable pub movesTo : Description → List ℕ → ℕ → Option ℕ
 movesTo d p n = between p (getD p n 0) (writersOf d n) (readersOf d n)
 
--- Datum n, which stands on h, would do better on k in its option: it may stand there, and its storage there, then k, is lower than its
--- storage on h, then h.
+-- what keeping datum n on h costs, with a copy of it on k for a month: on whichever end a datum stands, its copy is on the other
+abbrev pub keptOn : Description → (n h k : ℕ) → ℕ
+keptOn d n h k = storedOn d n h + copyOf (cloud d k) (block d n .kind)
+
+-- Datum n, which stands on h, would do better on k in its option: it may stand there, and what it costs to keep it there with its copy on h, then
+-- k, is lower than what it costs to keep it on h with its copy on k, then h.
 unfoldable pub exchanges : Description → (n h k : ℕ) → Bool
-exchanges d n h k = mayStand d n k && before (storedOn d n k ∷ k ∷ []) (storedOn d n h ∷ h ∷ [])
+exchanges d n h k = mayStand d n k && before (keptOn d n k h ∷ k ∷ []) (keptOn d n h k ∷ h ∷ [])
 
 abbrev pub cheaperOn : Description → List ℕ → ℕ → Option ℕ → Bool
 cheaperOn d p n none = false
 cheaperOn d p n (some k) = exchanges d n (getD p n 0) k
 
 -- no block is cheaper where it can move to
-unfoldable pub standsByStorage : Description → List ℕ → Bool
-standsByStorage d p = not (any (λ n. cheaperOn d p n (movesTo d p n)) (below (length (d .blocks))))
+unfoldable pub standsByExchanges : Description → List ℕ → Bool
+standsByExchanges d p = not (any (λ n. cheaperOn d p n (movesTo d p n)) (below (length (d .blocks))))
 
 -- ---- the words of the laws
 
--- Block n can move to cloud k in its option, may stand there, and is stored there at a lower cost, or at the same cost on a lower
--- cloud.
+-- Block n can move to cloud k in its option, may stand there, and is kept there, with its copy where it stands now, at a lower cost, or at
+-- the same cost on a lower cloud.
 pub record MovesDown (d : Description) (p : List ℕ) (n k : ℕ) : Type 0 where
   pub declared : n < length (d .blocks)
   pub moves : movesTo d p n ≡ some k
   pub stands : mayStand d n k ≡ true
-  pub lower : (storedOn d n k < storedOn d n (getD p n 0)) ⊎ ((storedOn d n k ≡ storedOn d n (getD p n 0)) × (k < getD p n 0))
+  pub lower : (keptOn d n k (getD p n 0) < keptOn d n (getD p n 0) k) ⊎ ((keptOn d n k (getD p n 0) ≡ keptOn d n (getD p n 0) k) × (k < getD p n 0))
 
 -- every service stands on the same cloud in both
 abbrev pub SameServices : Description → List ℕ → List ℕ → Type 0

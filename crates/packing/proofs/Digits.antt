@@ -7,11 +7,12 @@ use native.Mathlib.Decide.{ℕ-discrete, decLt}
 use mathlib.Core.Path.{_≡_, refl, sym, ap, ap₂, _∙_}
 use mathlib.Core.List.{List, [], _∷_, _++_, append-nil, append-assoc}
 use lib.Dec.{ltb, eqb}
-use lib.ListN.{length, getD, set, take, replicate, length-append, length-replicate, List·getD-append, List·getD-eq-default}
+use lib.ListN.{length, getD, set, take, replicate, length-append, List·getD-append, List·getD-eq-default}
 use lib.Seq.{getD-at, set-at, take-suc, length-take-le}
 use lib.Pow.{shr-shr, pow-add}
 use borrow.Author.Tests.{lt-ltb, le-ltb, eq-eqb, ne-eqb}
 use Rattle.sequences.specs.Lists.{same, before}
+use Rattle.sequences.proofs.Indexing.{zeros-at}
 use Rattle.packing.specs.Packing.{packFrom, pack, digits, Low}
 
 -- a packed placement of at most 16 blocks
@@ -103,6 +104,15 @@ digits-low n p i = elim (decLt i n) [
   | yes h ↦ omega (arith, digit n i p h)
   | no h ↦ omega (arith, List·getD-eq-default (digits n p) 0 {n = i} (omega (arith, digits-length n p)))
 ]
+
+-- so they are with zeros behind them
+pub padded-low : (n p m : ℕ) → Low (digits n p ++ replicate m 0)
+padded-low n p m = go (digits n p) (digits-low n p)
+  where
+    go : (q : List ℕ) → Low q → Low (q ++ replicate m 0)
+    go [] l i = omega (arith, zeros-at m i)
+    go (k ∷ q) l zero = l 0
+    go (k ∷ q) l (suc i) = go q (λ j. l (suc j)) i
 
 -- ---- order
 

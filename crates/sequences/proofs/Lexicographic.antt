@@ -1,15 +1,14 @@
 -- The order `before` of lists of numbers that are compared place by place, of two numbers, and of sums.
 use Prim.Native.Nat.{ℕ, zero, suc, _+_, _≤_, _<_}
 use native.Mathlib.Nat.{zero-lt-suc, suc-inj, not-suc-le-zero, le-of-suc-le-suc}
-use native.Mathlib.Decide.{decLt, ℕ-discrete}
+use native.Mathlib.Decide.{decLt}
 use native.Mathlib.Omega.{arith}
 use mathlib.Core.Path.{_≡_, refl, sym, _∙_}
 use mathlib.Core.Logic.{_↔_, _⊎_, inl, inr}
 use mathlib.Core.Bool.{true, false, true≢false, false≢true}
 use mathlib.Core.List.{List, [], _∷_}
-use lib.Dec.{ltb, eqb}
 use lib.ListN.{length, getD, set}
-use borrow.Author.Tests.{lt-ltb, le-ltb, eq-eqb, ne-eqb}
+use borrow.Author.Tests.{le-ltb, eq-eqb, ne-eqb}
 use Rattle.sequences.specs.Lists.{before}
 use Rattle.sequences.proofs.Orders.{before-lower, before-rest, before-cases, before-same}
 
@@ -53,18 +52,21 @@ module _ (u k v l : ℕ) where
       let later : u ≡ v → ¬ (k < l) = λ e h. true≢false (sym (pair-before .1 (inr (e, h))) ∙ f) in
       (omega arith, λ e. omega (arith, later (sym e)))
 
+-- first numbers u and v that are to each other as x and y
+pub before-as : (x y u v : ℕ) (xs ys : List ℕ) → (x < y → u < v) → (x ≡ y → u ≡ v) → (y < x → v < u)
+    → before (u ∷ xs) (v ∷ ys) ≡ before (x ∷ xs) (y ∷ ys)
+before-as x y u v xs ys low tie high = go (decLt x y) (decLt y x)
+  where
+    go : Dec (x < y) → Dec (y < x) → before (u ∷ xs) (v ∷ ys) ≡ before (x ∷ xs) (y ∷ ys)
+    go (yes l) _ = before-lower u v xs ys (low l) ∙ sym (before-lower x y xs ys l)
+    go (no l) (yes h) =
+        let above = high h in
+        rw (le-ltb u v (omega arith), ne-eqb u v (λ e. omega arith), le-ltb x y (omega arith), ne-eqb x y (λ e. omega arith)) refl
+    go (no l) (no h) =
+        let same : x ≡ y = omega arith in
+        let other = tie same in
+        rw (le-ltb u v (omega arith), eq-eqb u v other, le-ltb x y (omega arith), eq-eqb x y same) refl
+
 -- what is added to both first numbers makes no difference
 pub before-plus : (x y n : ℕ) (xs ys : List ℕ) → before ((x + n) ∷ xs) ((y + n) ∷ ys) ≡ before (x ∷ xs) (y ∷ ys)
-before-plus x y n xs ys = rw (less, equal) refl
-  where
-    less : ltb (x + n) (y + n) ≡ ltb x y
-    less = elim (decLt x y) [
-      | yes h ↦ lt-ltb (x + n) (y + n) (omega arith) ∙ sym (lt-ltb x y h)
-      | no h ↦ le-ltb (x + n) (y + n) (omega arith) ∙ sym (le-ltb x y (omega arith))
-    ]
-
-    equal : eqb (x + n) (y + n) ≡ eqb x y
-    equal = elim (ℕ-discrete x y) [
-      | yes h ↦ eq-eqb (x + n) (y + n) (omega arith) ∙ sym (eq-eqb x y h)
-      | no h ↦ ne-eqb (x + n) (y + n) (omega arith) ∙ sym (ne-eqb x y h)
-    ]
+before-plus x y n xs ys = before-as x y (x + n) (y + n) xs ys (λ l. omega arith) (λ e. omega arith) (λ h. omega arith)

@@ -43,7 +43,7 @@ use Rattle.survey.specs.Joining.{Joined, met}
 use Rattle.survey.specs.Rows.{census, securePlacements, earlier, rowOf, later, draw}
 use Rattle.survey.specs.Surveys.{toCount, toDraw, seenOf, keptOf, Asks}
 use Rattle.survey.proofs.Counting.{census-candidates}
-use Rattle.survey.proofs.Standing.{stands-by-storage}
+use Rattle.survey.proofs.Standing.{stands-by-exchanges}
 use Rattle.survey.proofs.Walked.{sees-16, sees-17, sees-apart, sees-secure, sees-options, draws}
 
 pub joined : (d : Description) → Admitted d → Joined d (tablesOf d)
@@ -56,8 +56,8 @@ joined d a = record {
   costIs = λ q m h. weighs q m ∙ weight-cost d (padded d q) bounded h;
   apartIs = λ q m. apart-is d w q (candidate-member q m);
   standsIs = λ q m h.
-      tests-same d w q (placement-there d w q m .1) ∙
-      sym (stands-by-storage d w (padded d q) (secure-member q m h));
+      tests-same d w q (placement-there d w q m .1) (placement-there d w q m .2) ∙
+      sym (stands-by-exchanges d w (padded d q) (secure-member q m h));
 }
   where
     w : WellFormed d

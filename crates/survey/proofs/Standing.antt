@@ -10,10 +10,10 @@ use Rattle.description.specs.Invariants.{WellFormed}
 use Rattle.security.specs.Soundness.{candidates}
 use Rattle.security.specs.Placements.{secure}
 use Rattle.options.specs.Options.{sameOption}
-use Rattle.options.specs.Representatives.{standsLocally, standsByStorage, SecureCandidate, First}
+use Rattle.options.specs.Representatives.{standsLocally, standsByExchanges, SecureCandidate, First}
 use Rattle.options.proofs.Options.{sameOption-equivalence}
 use Rattle.options.proofs.Representatives.{local-is-global}
-use Rattle.options.proofs.Storage.{storage-is-local}
+use Rattle.options.proofs.LocalExchanges.{exchanges-are-local}
 use Rattle.survey.specs.Rows.{securePlacements, earlier, rowOf, stands}
 use Rattle.survey.proofs.RowOrder.{placement-order}
 use Rattle.sequences.specs.Orders.{Represented}
@@ -62,6 +62,6 @@ module _ (d : Description) (w : WellFormed d) (p : List ℕ) (member : List·Mem
       let local = local-is-global d w p (secure-members d p .0 member) in
       tests-agree (stands d p) (standsLocally d p) (λ t. local .1 (first .0 t), λ t. first .1 (local .0 t))
 
-  -- That is: exactly where no block is stored cheaper where it can move to.
-  pub stands-by-storage : stands d p ≡ standsByStorage d p
-  stands-by-storage = stands-locally ∙ sym (storage-is-local d w p (secure-members d p .0 member))
+  -- That is: exactly where no block is kept cheaper where it can move to.
+  pub stands-by-exchanges : stands d p ≡ standsByExchanges d p
+  stands-by-exchanges = stands-locally ∙ sym (exchanges-are-local d w p (secure-members d p .0 member))

@@ -13,7 +13,7 @@ ghost use Rattle.survey.specs.RowWords.{keysNeeded, unsorted};
 ghost use Rattle.survey.specs.Rows.{census, draw, rows as rowsOf};
 ghost use Rattle.survey.specs.Surveys.{toCount, toDraw, seenOf, keptOf, Asks};
 use costs::answers::Bill;
-use costs::cost::bill_of;
+use costs::bills::bill_of;
 use description::words::Words;
 use description::workflow::block_count;
 use packing::floor_place;
@@ -178,7 +178,7 @@ pub fn row_past(w: &Words, masks: &Masks, candidates: u64, cursor: Cursor) -> Ne
     }
     let cost = state[BEST_COST];
     let placement = unpacked(state[BEST_PLACE], blocks);
-    let bill = bill_of(w, placement, cost);
+    let bill = bill_of(w, &placement, cost);
     Next {
         found: true,
         row: Row {

@@ -11,12 +11,13 @@ use borrow.Author.Tests.{lt-ltb}
 use Rattle.description.specs.declared.workflow.Edge.{Edge}
 use Rattle.description.specs.Format.{Description, noEdge, edge}
 use Rattle.description.specs.Invariants.{Limits, WellFormed, InRange}
-use Rattle.security.specs.Soundness.{candidates}
+use Rattle.security.specs.Soundness.{mayStand, candidates}
 use Rattle.security.specs.Placements.{serviceCloud, datumCloud}
 use Rattle.costs.specs.Terms.{blockTerm, edgeTerm, weightOf}
 use Rattle.costs.proofs.Charges.{weight-terms, block-small}
 use Rattle.security.proofs.Candidates.{candidates-placed}
 use Rattle.security.proofs.PermittedClouds.{mask-low, block-masks, masks-choose}
+use Rattle.security.proofs.Standing.{may-stand}
 use Rattle.sequences.specs.Bits.{bitChoices}
 use Rattle.sequences.specs.Lists.{below, sum}
 use Rattle.sequences.proofs.Counting.{length-below}
@@ -217,7 +218,8 @@ module _ (d : Description) (wf : WellFormed d) where
 
   -- a placement by the tables has a declared cloud for each block
   pub placement-there : (q : List ℕ) → List·Memᴰ q (placements (tablesOf d) (length (d .blocks)))
-      → (length q ≡ length (d .blocks)) × ((b : ℕ) → getD q b 0 < length (d .clouds))
+      → (length q ≡ length (d .blocks)) × ((b : ℕ) → getD q b 0 < length (d .clouds)) ×
+      ((b : ℕ) → b < length (d .blocks) → mayStand d b (getD q b 0) ≡ true)
   placement-there q m =
       let n = length (d .blocks) in
       let z = 16 - n in
@@ -228,6 +230,7 @@ module _ (d : Description) (wf : WellFormed d) where
         everywhere (λ (x : ℕ). x < length (d .clouds)) 0 q (wf .someCloud) (λ b h.
             let there : b < n = omega (arith, size) in
             rw (getD-padded q z b) at (placed b (omega (arith, wf .limits .blocks)) .stands there .declared)),
+        λ b there. rw (getD-padded q z b) at (may-stand d (padded d q) b .1 (placed b (omega (arith, wf .limits .blocks)))),
       )
 
   -- ---- what the walk asks

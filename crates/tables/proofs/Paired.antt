@@ -4,17 +4,15 @@ use native.Mathlib.Omega.{arith}
 use mathlib.Core.Path.{_≡_, refl, ap, ap₂, _∙_}
 use mathlib.Core.Logic.{_⊎_, inl, inr, ⊎-elim}
 use mathlib.Core.Bool.{Bool, true, false, _||_, cond}
-use mathlib.Core.List.{List, [], _∷_, List·Memᴰ·head}
+use mathlib.Core.List.{List, [], _∷_}
 use lib.Dec.{eqb}
 use lib.ListN.{length, getD}
 use borrow.Author.Tests.{eq-eqb, ne-eqb}
 use Rattle.description.specs.declared.workflow.Edge.{Edge}
 use Rattle.description.specs.declared.workflow.Way.{Way}
 use Rattle.description.specs.declared.workflow.Way.the-variants.{Reads, Writes}
-use Rattle.description.specs.Format.{Description, noEdge, block, isDatum}
+use Rattle.description.specs.Format.{Description, noEdge}
 use Rattle.description.specs.Invariants.{WellFormed}
-use Rattle.options.specs.Options.{writersOf}
-use Rattle.options.proofs.Exchanges.{written-datum}
 use Rattle.sequences.specs.Lists.{keep}
 use Rattle.sequences.proofs.Tests.{cond-ind}
 use Rattle.visit.specs.Tables.{Paired}
@@ -136,11 +134,3 @@ module _ (d : Description) (wf : WellFormed d) where
     conflictsFew = rw (count-is d wf) (list-few d wf);
     conflictsSmall = conflict-small d wf;
   }
-
-  -- what has a writer and a reader is a datum
-  pub paired-datum : (m : ℕ) → ofPair (only d Writes m) (only d Reads m) 0 < 16 → isDatum (block d m .kind) ≡ true
-  paired-datum m h = go (writersOf d m) refl (first-low (only d Writes m) (only d Reads m) h)
-    where
-      go : (ws : List Edge) → writersOf d m ≡ ws → onlyOf ws < 16 → isDatum (block d m .kind) ≡ true
-      go [] e l = absurd (omega arith)
-      go (w ∷ ws) e l = written-datum d wf m w (rw e (List·Memᴰ·head refl))

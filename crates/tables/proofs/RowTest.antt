@@ -1,4 +1,4 @@
--- The walk's row test over the tables of a description is the rules' test by storage.
+-- The walk's row test over the tables of a description is the rules' test by exchanges.
 use Prim.Native.Nat.{ℕ, _-_, _<_}
 use native.Mathlib.Omega.{arith}
 use mathlib.Core.Path.{_≡_, refl, sym, ap, _∙_}
@@ -13,8 +13,8 @@ use Rattle.description.specs.declared.workflow.Way.the-variants.{Reads, Writes}
 use Rattle.description.specs.Format.{Description}
 use Rattle.description.specs.Invariants.{WellFormed}
 use Rattle.options.specs.Options.{writersOf, readersOf}
-use Rattle.options.specs.Representatives.{between, movesTo, exchanges, cheaperOn, standsByStorage}
-use Rattle.options.proofs.Exchanges.{moves-between, stands-by-storage}
+use Rattle.options.specs.Representatives.{between, movesTo, exchanges, cheaperOn, standsByExchanges}
+use Rattle.options.proofs.Exchanges.{moves-between, stands-by-exchanges}
 use Rattle.options.proofs.Locality.{edge-service}
 use Rattle.options.proofs.Mixing.{block-low}
 use Rattle.options.proofs.Options.{service-named}
@@ -24,6 +24,7 @@ use Rattle.sequences.proofs.Members.{keep-members, below-members}
 use Rattle.visit.specs.Tables.{betterOn as betterBy, movesTo as movesBy, stands as standsBy}
 use Rattle.visit.proofs.Defined.{stands-where}
 use Rattle.security.specs.Masks.{padded}
+use Rattle.security.specs.Soundness.{mayStand}
 use Rattle.tables.specs.Building.{onlyOf, only, ofPair, exchangesOf, tablesOf}
 use Rattle.tables.proofs.Exchanging.{exchange-bit}
 use Rattle.sequences.proofs.Indexing.{getD-padded}
@@ -64,7 +65,8 @@ moved : (s : Bool) (a c b k : ℕ) → a < 8 → c < 8 → cond s (otherEnd a c 
 moved true a c b k ha hc e = (refl, end-low a c b k ha hc e)
 moved false a c b k ha hc e = absurd (Option·some-ne-none k (sym e))
 
-module _ (d : Description) (w : WellFormed d) (q : List ℕ) (low : (i : ℕ) → getD q i 0 < length (d .clouds)) where
+module _ (d : Description) (w : WellFormed d) (q : List ℕ) (low : (i : ℕ) → getD q i 0 < length (d .clouds))
+    (stand : (b : ℕ) → b < length (d .blocks) → mayStand d b (getD q b 0) ≡ true) where
   abbrev p : List ℕ
   p = padded d q
 
@@ -94,13 +96,13 @@ module _ (d : Description) (w : WellFormed d) (q : List ℕ) (low : (i : ℕ) �
   better-same m l (some k) e =
       let few : (i : ℕ) → getD q i 0 < 8 = λ i. omega (arith, low i, w .limits .clouds) in
       let (pair, k8) = moved (ltb (pairOf m 0) 16) (getD q (pairOf m 0) 0) (getD q (pairOf m 1) 0) (getD q m 0) k (few _) (few _) (sym (moves-by m l) ∙ e) in
-      exchange-bit d w m (getD q m 0) k l (low m) k8 (ltb-true (pairOf m 0) 16 pair) ∙ ap (λ (h : ℕ). exchanges d m h k) (sym (padded-at m))
+      exchange-bit d w m (getD q m 0) k l (low m) (stand m l) k8 (ltb-true (pairOf m 0) 16 pair) ∙ ap (λ (h : ℕ). exchanges d m h k) (sym (padded-at m))
 
   -- the two tests agree
-  pub tests-same : standsBy (tablesOf d) (length (d .blocks)) q ≡ standsByStorage d p
+  pub tests-same : standsBy (tablesOf d) (length (d .blocks)) q ≡ standsByExchanges d p
   tests-same =
       stands-where (tablesOf d) (length (d .blocks)) q ∙
       ap not (any-agree _ _ (below (length (d .blocks))) (λ m i.
       let l = below-members (length (d .blocks)) m .0 i in
       better-same m l (movesBy (tablesOf d) q m) refl ∙ ap (cheaperOn d p m) (moves-same m l))) ∙
-      sym (stands-by-storage d p)
+      sym (stands-by-exchanges d p)

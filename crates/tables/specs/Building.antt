@@ -2,29 +2,29 @@
 -- in the order of their later ends, the data between one writer and one reader, and the blocks that may not share a cloud.
 use Prim.Native.Nat.{ℕ, zero, suc, _+_, _-_, _*_, _/_, _%_, _≤_, _<_}
 use mathlib.Core.Path.{_≡_}
-use mathlib.Core.Bool.{Bool, not, _&&_, _||_, cond}
+use mathlib.Core.Bool.{Bool, false, not, _&&_, _||_, cond}
 use mathlib.Core.List.{List, [], _∷_, _++_}
 use lib.Dec.{ltb, leb, eqb}
 use lib.ListN.{length, getD}
 use Rattle.description.specs.declared.workflow.Block.{Block}
 use Rattle.description.specs.declared.workflow.Cloud.{Cloud}
 use Rattle.description.specs.declared.workflow.Edge.{Edge}
+use Rattle.description.specs.declared.workflow.Kind.{Kind}
+use Rattle.description.specs.declared.workflow.Kind.the-variants.{Datum, Service}
 use Rattle.description.specs.declared.workflow.Way.{Way}
 use Rattle.description.specs.declared.workflow.Way.the-variants.{Reads, Writes}
 use Rattle.description.specs.Format.{Description, cloud, block, edge, sameWay}
 use Rattle.security.specs.Masks.{masksOf}
+use Rattle.security.specs.Soundness.{mayStand}
 use Rattle.security.specs.Conflicts.{serves, conflicts}
+use Rattle.costs.specs.Cost.{gigabytes, storageOf}
 use Rattle.costs.specs.Terms.{blockTerm, edgeTerm, serviceSide, datumSide}
 use Rattle.options.specs.Representatives.{exchanges}
-use Rattle.sequences.specs.Arrays.{table, tableTo}
+use Rattle.sequences.specs.Arrays.{table, tableTo, AllBelow}
 use Rattle.sequences.specs.Bits.{bit, bits}
 use Rattle.sequences.specs.Lists.{any, keep, below, before}
 use Rattle.visit.specs.Tables.{Tables, tables, masksFrom, pairsFrom, mostConflicts}
 use Rattle.weights.specs.Weights.{termLimit}
-
--- every entry is below m
-abbrev pub AllBelow : ℕ → List ℕ → Type 0
-AllBelow m a = (i : ℕ) → getD a i 0 < m
 
 -- ---- blocks
 
@@ -218,27 +218,54 @@ conflictsOf d = length (conflictList d) ∷ table mostConflicts (λ i. getD (con
 
 -- ---- data that would do better elsewhere
 
--- Where datum i / 8, which stands on cloud i % 8, would do better: bit k says that it would on k. 0 where that block has not one writer and
--- one reader, or that cloud is not declared.
+-- Where datum m, which stands on h, would do better: bit k says that it would on k. 0 where it may not stand on h
+abbrev pub exchangeBits : Description → (m h : ℕ) → ℕ
+exchangeBits d m h = cond (mayStand d m h) (bits (exchanges d m h) 0 8) 0
+
+-- That of datum i / 8, on cloud i % 8; 0 where that block has not one writer and one reader, or that cloud is not declared.
 abbrev pub exchangeAt : Description → ℕ → ℕ
-exchangeAt d i = cond (ltb (i % 8) (length (d .clouds)) && ltb (pairAt d (2 * (i / 8))) 16) (bits (exchanges d (i / 8) (i % 8)) 0 8) 0
+exchangeAt d i = cond (ltb (i % 8) (length (d .clouds)) && ltb (pairAt d (2 * (i / 8))) 16) (exchangeBits d (i / 8) (i % 8)) 0
 
 unfoldable pub exchangesOf : Description → List ℕ
 exchangesOf d = tableTo 128 (length (d .blocks) * 8) (exchangeAt d)
 
--- The same by the other tables. Block m may stand on k by its mask, and what it adds there, then k, is lower than what it adds on h, then h.
-abbrev pub betterBy : (words : List ℕ) (mask m h k : ℕ) → Bool
-betterBy words mask m h k = bit mask k && before (getD words (m * 8 + k) 0 ∷ k ∷ []) (getD words (m * 8 + h) 0 ∷ h ∷ [])
+-- What decides between two clouds where a datum stands on c and its copy on e: of a datum that is kept for more than a month its storage, which
+-- a month of the copy does not outweigh; of one that is not kept its copy; of one that is kept for a month nothing, since both cost the same.
+abbrev pub keptLonger : Kind → Bool
+keptLonger (Datum size longevity) = ltb 1 longevity
+keptLonger (Service clearance units) = false
+
+abbrev pub turnedOf : Kind → ℕ
+turnedOf (Datum size zero) = gigabytes size
+turnedOf (Datum size (suc longevity)) = 0
+turnedOf (Service clearance units) = 0
+
+abbrev pub deciding : Kind → (c e : Cloud) → ℕ
+deciding kind c e = cond (keptLonger kind) (storageOf c kind) (e .storage * turnedOf kind)
+
+-- with the storage of datum m in the words of the walk
+abbrev pub decidingBy : Description → (words : List ℕ) (longer : Bool) (quantity m on other : ℕ) → ℕ
+decidingBy d words longer quantity m on other = cond longer (getD words (m * 8 + on) 0) (cloud d other .storage * quantity)
+
+-- by a mask and by what decides: k is permitted, and the cost there, then k, is lower than that on h, then h
+abbrev pub betterAs : (cost : (on other : ℕ) → ℕ) (mask h k : ℕ) → Bool
+betterAs cost mask h k = bit mask k && before (cost k h ∷ k ∷ []) (cost h k ∷ h ∷ [])
+
+-- the same as in the table of exchanges, by the masks and pairs of the other tables
+abbrev pub betterBy : Description → (mask m h k : ℕ) → Bool
+betterBy d mask m = betterAs (λ on other. deciding (block d m .kind) (cloud d on) (cloud d other)) mask
+
+abbrev pub bitsBy : Description → (mask clouds m h : ℕ) → ℕ
+bitsBy d mask clouds m h = cond (bit mask h) (bits (betterBy d mask m h) 0 clouds) 0
 
 abbrev pub mayExchange : (bytes : List ℕ) (clouds i : ℕ) → Bool
 mayExchange bytes clouds i = ltb (i % 8) clouds && ltb (getD bytes (pairsFrom + 2 * (i / 8)) 0) 16
 
-abbrev pub exchangeBy : (words bytes : List ℕ) (clouds i : ℕ) → ℕ
-exchangeBy words bytes clouds i =
-    cond (mayExchange bytes clouds i) (bits (betterBy words (getD bytes (masksFrom + i / 8) 0) (i / 8) (i % 8)) 0 clouds) 0
+abbrev pub exchangeBy : Description → (bytes : List ℕ) (clouds i : ℕ) → ℕ
+exchangeBy d bytes clouds i = cond (mayExchange bytes clouds i) (bitsBy d (getD bytes (masksFrom + i / 8) 0) clouds (i / 8) (i % 8)) 0
 
-abbrev pub exchangesBy : (words bytes : List ℕ) (blocks clouds : ℕ) → List ℕ
-exchangesBy words bytes blocks clouds = tableTo 128 (blocks * 8) (exchangeBy words bytes clouds)
+abbrev pub exchangesBy : Description → (bytes : List ℕ) (blocks clouds : ℕ) → List ℕ
+exchangesBy d bytes blocks clouds = tableTo 128 (blocks * 8) (exchangeBy d bytes clouds)
 
 -- ---- all of them
 

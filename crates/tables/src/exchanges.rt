@@ -10,16 +10,19 @@ ghost use Rattle.description.specs.Invariants.{WellFormed};
 ghost use Rattle.description.specs.Meaning.{describes};
 ghost use Rattle.sequences.specs.Arrays.{table, tableTo};
 ghost use Rattle.tables.specs.Building.{edgesOf, noService, noted, onlyIn, pairBy, pairsOf};
-ghost use Rattle.sequences.specs.Bits.{bits};
-ghost use Rattle.tables.specs.Building.{betterBy, mayExchange, exchangesBy};
+ghost use Rattle.tables.specs.Building.{wordsOf, keptLonger, turnedOf, decidingBy, betterAs, bitsBy, mayExchange, exchangesBy};
 ghost use Rattle.visit.specs.Tables.{exchangesFrom};
+use costs::cost::gigabytes;
 use description::decode::is_write;
 use description::words::MOST_BLOCKS;
 use description::words::MOST_CLOUDS;
 use description::words::Words;
 use description::workflow::Edge;
+use description::workflow::Kind;
 use description::workflow::Way;
+use description::workflow::block_at;
 use description::workflow::block_count;
+use description::workflow::cloud_at;
 use description::workflow::edge_at;
 use description::workflow::edge_count;
 use sequences::wide;
@@ -130,31 +133,103 @@ pub fn fill_pairs(w: &Words, a: &mut [u8])
     pair_up(&writers, &readers, block_count(w), a);
 }
 
-// Block m, which stands on `here`, may stand on `there` by its mask, and costs less there, or as much and `there` is the lower cloud.
-fn is_better(words: &TableWords, mask: u8, m: usize, here: usize, there: usize) -> bool
-    requires { ⌜ (m < 16) × (here < 8) × (there < 8) ⌝ }
-    ensures { λ r. ⌜ r ≡ betterBy (now (words .entry)) mask m here there ⌝ }
+// It is a datum that is kept for more than a month. Then its storage alone decides between two clouds: what the copy takes back of a
+// difference is a month of it.
+fn is_kept_longer(kind: Kind) -> bool
+    ensures { λ r. ⌜ r ≡ keptLonger kind ⌝ }
+{
+    match kind {
+        Kind::Datum { size: _, longevity } => longevity > 1,
+        Kind::Service {
+            clearance: _,
+            units: _,
+        } => false,
+    }
+}
+
+// Otherwise its copy decides if it is not kept at all; if it is kept for a month, both clouds cost the same.
+fn turned_of(kind: Kind) -> u64
+    ensures { λ r. ⌜ r ≡ turnedOf kind ⌝ }
+    ensures { λ r. ⌜ r ≤ 6554 ⌝ }
+{
+    match kind {
+        Kind::Datum { size, longevity } => {
+            if longevity == 0 {
+                return gigabytes(size);
+            }
+            0
+        }
+        Kind::Service {
+            clearance: _,
+            units: _,
+        } => 0,
+    }
+}
+
+// What decides where datum m stands on one cloud and its copy on another: its words for storage, or what the copy costs.
+fn deciding_on(
+    w: &Words,
+    words: &TableWords,
+    longer: bool,
+    quantity: u64,
+    m: usize,
+    on: usize,
+    other: usize,
+) -> u64
+    requires { ⌜ (m < 16) × (on < 8) × (quantity ≤ 6554) ⌝ }
+    ensures { λ r. ⌜ r ≡ decidingBy (describes (now (w .entry))) (now (words .entry)) longer quantity m on other ⌝ }
+{
+    if longer {
+        return words[m * MOST_CLOUDS + on];
+    }
+    let cloud = cloud_at(w, other);
+    (cloud.storage as u64) * quantity
+}
+
+// Datum m, which stands on `here`, may stand on `there` by its mask, and does so at a lower cost, or at the same and `there` is the lower cloud.
+fn is_better(
+    w: &Words,
+    words: &TableWords,
+    longer: bool,
+    quantity: u64,
+    mask: u8,
+    m: usize,
+    here: usize,
+    there: usize,
+) -> bool
+    requires { ⌜ (m < 16) × (here < 8) × (there < 8) × (quantity ≤ 6554) ⌝ }
+    ensures { λ r. ⌜ r ≡ betterAs (decidingBy (describes (now (w .entry))) (now (words .entry)) longer quantity m) mask here there ⌝ }
 {
     if (wide(mask) >> there) % 2 == 0 {
         return false;
     }
-    let new = words[m * MOST_CLOUDS + there];
-    let old = words[m * MOST_CLOUDS + here];
+    let new = deciding_on(w, words, longer, quantity, m, there, here);
+    let old = deciding_on(w, words, longer, quantity, m, here, there);
     if new == old {
         return there < here;
     }
     new < old
 }
 
-// The clouds on which it would do better, from the highest bit down.
-fn better_bits(words: &TableWords, mask: u8, clouds: usize, m: usize, here: usize) -> u8
+// The clouds on which datum m would do better, from the highest bit down; none if it may not stand on `here` at all.
+fn better_bits(w: &Words, words: &TableWords, mask: u8, clouds: usize, m: usize, here: usize) -> u8
     requires { ⌜ (clouds ≤ 8) × (m < 16) × (here < 8) ⌝ }
-    ensures { λ r. ⌜ r ≡ bits (betterBy (now (words .entry)) mask m here) 0 clouds ⌝ }
+    requires { ⌜ now words ≡ wordsOf (describes (now w)) ⌝ }
+    ensures { λ r. ⌜ r ≡ bitsBy (describes (now (w .entry))) mask clouds m here ⌝ }
 {
+    if (wide(mask) >> here) % 2 == 0 {
+        return 0;
+    }
+    let block = block_at(w, m);
+    let kind = block.kind;
+    let longer = is_kept_longer(kind);
+    let quantity = turned_of(kind);
     let mut better: u8 = 0;
     let mut i = 0;
     while i < clouds {
-        better = with_bit(better, is_better(words, mask, m, here, clouds - 1 - i));
+        let there = clouds - 1 - i;
+        let on = is_better(w, words, longer, quantity, mask, m, here, there);
+        better = with_bit(better, on);
         i += 1;
     }
     better
@@ -171,18 +246,32 @@ fn has_exchange(bytes: &TableBytes, clouds: usize, i: usize) -> bool
     false
 }
 
-// Where datum i / 8, on cloud i % 8, would do better, by the other tables: what it is charged there is its storage.
-pub fn fill_exchanges(words: &TableWords, bytes: &mut TableBytes, blocks: usize, clouds: usize)
+// Where datum i / 8, on cloud i % 8, would do better, by the masks and pairs of the other tables.
+pub fn fill_exchanges(
+    w: &Words,
+    words: &TableWords,
+    bytes: &mut TableBytes,
+    blocks: usize,
+    clouds: usize,
+)
     requires { ⌜ (blocks ≤ 16) × (clouds ≤ 8) ⌝ }
+    requires { ⌜ now words ≡ wordsOf (describes (now w)) ⌝ }
     requires { ⌜ drop exchangesFrom (now bytes) ≡ replicate 128 0 ⌝ }
-    ensures { λ _. ⌜ now (bytes .exit) ≡ take exchangesFrom (now (bytes .entry)) ++ exchangesBy (now (words .entry)) (now (bytes .entry)) blocks clouds ⌝ }
+    ensures { λ _. ⌜ now (bytes .exit) ≡ take exchangesFrom (now (bytes .entry)) ++ exchangesBy (describes (now (w .entry))) (now (bytes .entry)) blocks clouds ⌝ }
 {
     let last = blocks * MOST_CLOUDS;
     let mut i = 0;
     while i < last {
         if has_exchange(bytes, clouds, i) {
             let m = i / MOST_CLOUDS;
-            bytes[EXCHANGES + i] = better_bits(words, bytes[MASKS + m], clouds, m, i % MOST_CLOUDS);
+            bytes[EXCHANGES + i] = better_bits(
+                w,
+                words,
+                bytes[MASKS + m],
+                clouds,
+                m,
+                i % MOST_CLOUDS,
+            );
             i += 1;
         } else {
             i += MOST_CLOUDS - i % MOST_CLOUDS;

@@ -4,12 +4,20 @@ ghost use mathlib.Core.List.{[], _∷_, _++_};
 ghost use Prim.Native.Nat.{_+_, _*_, _≤_};
 ghost use lib.ListN.{length, drop, replicate};
 ghost use lib.Seq.{sets};
+ghost use Rattle.costs.specs.Prices.{ratesOf, quantitiesOf};
+ghost use Rattle.description.specs.Invariants.{WellFormed};
 ghost use Rattle.description.specs.Meaning.{describes};
 ghost use Rattle.whole_list.specs.Billing.{keyAt, Priced, AllPriced, billed, billedFront};
 use crate::KEY_WORDS;
 use crate::ROW_WORDS;
 use costs::answers::Bill;
-use costs::cost::bill_of;
+use costs::bills::QUANTITIES;
+use costs::bills::Quantities;
+use costs::bills::RATES;
+use costs::bills::Rates;
+use costs::bills::bill_by;
+use costs::bills::fill_quantities;
+use costs::bills::fill_rates;
 use description::words::Words;
 use description::workflow::block_count;
 use packing::unpacked;
@@ -26,7 +34,17 @@ fn put_row(rows: &mut [u64], at: usize, cost: u64, place: u64, bill: Bill)
 }
 
 // Row i goes to its words, and its key is cleared.
-fn bill_row(w: &Words, blocks: usize, keys: &mut [u64], rows: &mut [u64], i: usize)
+fn bill_row(
+    w: &Words,
+    rates: &Rates,
+    quantities: &Quantities,
+    blocks: usize,
+    keys: &mut [u64],
+    rows: &mut [u64],
+    i: usize,
+)
+    requires { ⌜ WellFormed (describes (now w)) ⌝ }
+    requires { ⌜ (now rates ≡ ratesOf (describes (now w))) × (now quantities ≡ quantitiesOf (describes (now w))) ⌝ }
     requires { ⌜ (blocks ≡ length (describes (now w) .blocks)) × (blocks ≤ 16) ⌝ }
     requires { ⌜ (i * 2 + 2 ≤ length (now keys)) × (i * 5 + 5 ≤ length (now rows)) ⌝ }
     requires { ⌜ Priced (describes (now w)) (keyAt (now keys) i) ⌝ }
@@ -38,21 +56,27 @@ fn bill_row(w: &Words, blocks: usize, keys: &mut [u64], rows: &mut [u64], i: usi
     let place = keys[key + 1];
     keys[key] = 0;
     keys[key + 1] = 0;
-    let bill = bill_of(w, unpacked(place, blocks), cost);
+    let placement = unpacked(place, blocks);
+    let bill = bill_by(w, rates, quantities, &placement, cost);
     put_row(rows, i * ROW_WORDS, cost, place, bill);
 }
 
-// The first n rows, in the order of their keys. What is beyond them stays.
+// The first n rows, in the order of their keys, by rates and quantities that are written down once. What is beyond them stays.
 pub fn bill_rows(w: &Words, keys: &mut [u64], rows: &mut [u64], n: usize)
+    requires { ⌜ WellFormed (describes (now w)) ⌝ }
     requires { ⌜ (n * 2 ≤ length (now keys)) × (n * 5 ≤ length (now rows)) ⌝ }
     requires { ⌜ AllPriced (describes (now w)) n (now keys) ⌝ }
     ensures { λ _. ⌜ now (keys .exit) ≡ replicate (n * 2) 0 ++ drop (n * 2) (now (keys .entry)) ⌝ }
     ensures { λ _. ⌜ now (rows .exit) ≡ billedFront (describes (now (w .entry))) n (now (keys .entry)) ++ drop (n * 5) (now (rows .entry)) ⌝ }
 {
     let blocks = block_count(w);
+    let mut rates = [0u16; RATES];
+    let mut quantities = [0u32; QUANTITIES];
+    fill_rates(w, &mut rates);
+    fill_quantities(w, &mut quantities);
     let mut i = 0;
     while i < n {
-        bill_row(w, blocks, keys, rows, i);
+        bill_row(w, &rates, &quantities, blocks, keys, rows, i);
         i += 1;
     }
 }

@@ -3,17 +3,18 @@
 use std::fmt::Debug;
 
 use panel::{Cursor, Placement as Placed, calls as engine};
-use reference::calls::{self as by_definition, ROW_WORDS, SCRATCH_WORDS};
+use reference::calls::{self as by_definition, Census, ROW_WORDS, SCRATCH_WORDS};
 use reference::description::{Description, Refusal, read};
 use reference::random::Random;
 use reference::rules::{Placement, Priced, Row};
 
+use crate::copies::Turned;
 use crate::generate::Kind;
 use crate::lent::{Checked, Lent};
 use crate::mask;
 use crate::operands::{cursor, placement, room, rooms};
 use crate::picture::{kind_of, room_seen, seen_in};
-use crate::tally::{Call, Tally};
+use crate::tally::{Call, TURNED, TURNED_AT_EQUAL_COST, Tally};
 use crate::text::has_half;
 use crate::wrapped;
 
@@ -271,17 +272,13 @@ impl<'a> Input<'a> {
 
     fn census(&mut self) -> Agreed {
         let mut figures = Lent::<u64>::new(self.random, 6);
-        let mut shown = Vec::new();
+        let (mut shown, mut turned) = (Vec::new(), Turned::default());
         let reference = self.described().map(|described| {
             let c = described.census(&self.rows);
-            let [merges, meet] = [c.options < c.secure, c.apart_only > 0];
-            let has_pairs = !described.apart.is_empty();
-            shown = vec![
-                ("merged options", merges),
-                ("merged options with pairs", merges && has_pairs),
-                ("pairs broken", meet),
-                ("pairs broken and kept", meet && c.secure > 0),
-            ];
+            shown = seen_in_census(described, &c);
+            if c.options < c.secure {
+                turned = Turned::of(described, &self.rows);
+            }
             figures.expect(&[
                 c.candidates,
                 c.breaking_16,
@@ -293,6 +290,8 @@ impl<'a> Input<'a> {
             "counts"
         });
         self.show(&shown);
+        self.tally.shown_times(TURNED, turned.rows);
+        self.tally.shown_times(TURNED_AT_EQUAL_COST, turned.tied);
         let library = engine::census(self.text.get(), figures.lend_array());
         let case = Case {
             call: Call::Census,
@@ -385,6 +384,17 @@ impl<'a> Input<'a> {
              reference   {reference:?}\ndifference  {subject}"
         ))
     }
+}
+
+fn seen_in_census(described: &Description, census: &Census) -> Vec<(&'static str, bool)> {
+    let [merges, meet] = [census.options < census.secure, census.apart_only > 0];
+    let has_pairs = !described.apart.is_empty();
+    vec![
+        ("merged options", merges),
+        ("merged options with pairs", merges && has_pairs),
+        ("pairs broken", meet),
+        ("pairs broken and kept", meet && census.secure > 0),
+    ]
 }
 
 fn has_three_amounts(row: &Row) -> bool {

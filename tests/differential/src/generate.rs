@@ -38,8 +38,8 @@ fn sound(random: &mut Random) -> Vec<u8> {
     Text::new(random).by(&plan)
 }
 
-/// Service, datum, service, datum: each datum written by the service before it and read by the one
-/// behind it, so that options merge; with a reader more here and there, where they do not.
+/// Data that are each written by one service and read by another, so that options merge, in half of
+/// the texts kept briefly; with a reader more here and there, where they do not.
 fn pipe(random: &mut Random) -> Vec<u8> {
     let [clouds, length] = random.pick(&[[2, 3], [2, 5], [2, 6], [3, 3], [3, 4], [4, 3]]);
     let levels: [usize; 2] = random.pick(&[[1, 1], [1, 1], [2, 1], [2, 2], [3, 2]]);
@@ -48,23 +48,12 @@ fn pipe(random: &mut Random) -> Vec<u8> {
     let blocks: Vec<u8> = (0..length).map(|_| level(1)).collect();
     let more_readers = random.pick(&[0, 0, 1]);
     let kept_apart = random.pick(&[false, false, true]);
+    let brief = random.one_in(2);
     let mut text = Text::new(random);
     for level in clouds {
         text.cloud(level);
     }
-    for (block, level) in blocks.into_iter().enumerate() {
-        if block % 2 == 0 {
-            text.service(0, 15);
-        } else {
-            text.datum(level);
-        }
-    }
-    for datum in (1..length as u8).step_by(2) {
-        text.link([WRITES, datum - 1, datum], true);
-        if datum + 1 < length as u8 {
-            text.link([READS, datum + 1, datum], true);
-        }
-    }
+    services_and_data(&mut text, &blocks, brief);
     for _ in 0..more_readers {
         text.edge(READS, true);
     }
@@ -75,6 +64,25 @@ fn pipe(random: &mut Random) -> Vec<u8> {
     }
     text.tame(81);
     text.end()
+}
+
+/// Service, datum, service, datum: each datum written by the service before it and read by the one
+/// behind it.
+fn services_and_data(text: &mut Text, levels: &[u8], brief: bool) {
+    for (block, &level) in levels.iter().enumerate() {
+        match (block % 2, brief) {
+            (0, _) => text.service(0, 15),
+            (_, false) => text.datum(level),
+            (_, true) => text.brief_datum(level),
+        }
+    }
+    let length = levels.len() as u8;
+    for datum in (1..length).step_by(2) {
+        text.link([WRITES, datum - 1, datum], true);
+        if datum + 1 < length {
+            text.link([READS, datum + 1, datum], true);
+        }
+    }
 }
 
 fn boundary(random: &mut Random) -> Vec<u8> {
@@ -369,6 +377,7 @@ fn garbage(random: &mut Random) -> Vec<u8> {
 #[cfg(test)]
 mod tests {
     use super::*;
+    use crate::copies::Turned;
     use crate::mask::has_gap;
     use reference::description::read;
 
@@ -408,6 +417,22 @@ mod tests {
     #[test]
     fn pipes_are_accepted() {
         assert!(seen(pipe, 500).iter().all(Result::is_ok));
+    }
+
+    /// In a good part of the pipes the price of copies decides which placement is the row, by cost
+    /// and by bytes.
+    #[test]
+    fn copies_decide_in_pipes() {
+        let mut random = Random::new(1);
+        let (mut by_cost, mut by_bytes) = (0, 0);
+        for _ in 0..1000 {
+            let described = read(&pipe(&mut random)).expect("pipes are accepted");
+            let turned = Turned::of(&described, &described.rows());
+            by_cost += u32::from(turned.rows > turned.tied);
+            by_bytes += u32::from(turned.tied > 0);
+        }
+        assert!(by_cost > 50, "{by_cost}");
+        assert!(by_bytes > 50, "{by_bytes}");
     }
 
     #[test]

@@ -44,6 +44,11 @@ impl Call {
     }
 }
 
+/// Options with another row than if copies were stored free, and those of them at equal cost. They
+/// are counted one by one, and some must be seen.
+pub const TURNED: &str = "rows turned by copies";
+pub const TURNED_AT_EQUAL_COST: &str = "rows turned by copies at equal cost";
+
 #[derive(Default)]
 pub struct Tally {
     kinds: BTreeMap<Kind, u64>,
@@ -67,7 +72,12 @@ impl Tally {
 
     /// Something that accepted descriptions should show now and then.
     pub fn shown(&mut self, name: &'static str) {
-        *self.traits.entry(name).or_default() += 1;
+        self.shown_times(name, 1);
+    }
+
+    /// Something that one description may show several times, or not at all.
+    pub fn shown_times(&mut self, name: &'static str, times: u64) {
+        *self.traits.entry(name).or_default() += times;
     }
 
     pub fn answered(&mut self, call: Call, answer: &'static str) {
@@ -84,14 +94,19 @@ impl Tally {
         self.refusals.get(&(call, number)).copied().unwrap_or(0)
     }
 
-    /// The refusals that should have been seen and were not.
+    /// What should have been seen and was not: refusals, and rows that the price of copies decides.
     pub fn missing(&self) -> Vec<String> {
         let due = Call::ALL
             .into_iter()
             .flat_map(|call| call.numbers().map(move |number| (call, number)));
-        due.filter(|&(call, number)| self.refusals_of(call, number) == 0)
-            .map(|(call, number)| format!("{call:?} {number}"))
-            .collect()
+        let refusals = due
+            .filter(|&(call, number)| self.refusals_of(call, number) == 0)
+            .map(|(call, number)| format!("{call:?} {number}"));
+        let turned = [TURNED, TURNED_AT_EQUAL_COST]
+            .into_iter()
+            .filter(|name| self.traits.get(name).is_none_or(|&times| times == 0))
+            .map(str::to_string);
+        refusals.chain(turned).collect()
     }
 
     pub fn print(&self, seed: u64, taken: Duration) {

@@ -153,8 +153,19 @@ impl<'a> Text<'a> {
     }
 
     pub fn datum(&mut self, level: u8) {
-        self.block(true, level, 0);
         let [size, longevity] = [self.size(), self.number()];
+        self.datum_of(level, size, longevity);
+    }
+
+    /// A datum that is kept so briefly that the price of a copy may decide where it stands.
+    pub fn brief_datum(&mut self, level: u8) {
+        let size = self.size();
+        let longevity = self.random.pick(&[0u16, 0, 1, 1, 2]).to_be_bytes();
+        self.datum_of(level, size, longevity);
+    }
+
+    fn datum_of(&mut self, level: u8, size: [u8; 2], longevity: [u8; 2]) {
+        self.block(true, level, 0);
         self.bytes.extend([DATUM, level]);
         self.bytes.extend([size, longevity].concat());
     }

@@ -49,13 +49,13 @@ impl Links {
 }
 
 /// What makes two placements of a description one option.
-struct Sameness {
+pub struct Sameness {
     services: Vec<usize>,
     links: Vec<Links>,
 }
 
 impl Sameness {
-    fn of(described: &Description) -> Self {
+    pub fn of(described: &Description) -> Self {
         let blocks = 0..described.blocks.len();
         let (data, services): (Vec<_>, _) = blocks.partition(|&b| described.blocks[b].is_datum());
         Sameness {
@@ -65,7 +65,7 @@ impl Sameness {
     }
 
     /// Equal exactly for secure placements of one option.
-    fn key(&self, placement: &Placement) -> Vec<u8> {
+    pub fn key(&self, placement: &Placement) -> Vec<u8> {
         let mut key = Vec::with_capacity(64);
         key.extend(self.services.iter().map(|&service| placement[service]));
         for links in &self.links {
@@ -77,11 +77,19 @@ impl Sameness {
 
 /// The placement that stands for each option, with its cost.
 pub fn cheapest_by_option(described: &Description) -> HashMap<Vec<u8>, Priced> {
+    cheapest_by(described, |placement| described.cost(placement))
+}
+
+/// The first placement of each option by what it costs in the caller's view, and then by its bytes.
+pub fn cheapest_by(
+    described: &Description,
+    cost: impl Fn(&Placement) -> u64,
+) -> HashMap<Vec<u8>, Priced> {
     let sameness = Sameness::of(described);
     let mut cheapest = HashMap::new();
     for placement in described.candidates() {
         if described.is_secure(&placement) {
-            let cost = described.cost(&placement);
+            let cost = cost(&placement);
             let priced = Priced { cost, placement };
             cheapest
                 .entry(sameness.key(&placement))

@@ -43,6 +43,14 @@ impl Cloud {
             Kind::Service { units, .. } => units * self.cpu,
         }
     }
+
+    /// What a copy of a datum is charged here: one month in storage.
+    pub fn month(&self, block: &Block) -> u64 {
+        match block.kind {
+            Kind::Datum { gigabytes, .. } => gigabytes * self.storage,
+            Kind::Service { .. } => 0,
+        }
+    }
 }
 
 impl Description {
@@ -119,6 +127,14 @@ impl Description {
         gigabytes * (self.clouds[source].outward + self.clouds[destination].inward)
     }
 
+    /// What the copy is charged that the edge's transfer leaves with its service.
+    pub fn copy(&self, edge: &Edge, service: usize, datum: usize) -> u64 {
+        if service == datum {
+            return 0;
+        }
+        self.clouds[service].month(&self.blocks[edge.datum])
+    }
+
     /// The clouds that hold a datum, a bit for each: its own, and those where a transfer leaves a
     /// copy.
     fn holders(&self, datum: usize, placement: &Placement) -> u8 {
@@ -150,7 +166,10 @@ impl Description {
     }
 
     pub fn cost(&self, placement: &Placement) -> u64 {
-        self.standing(placement, |_| true) + self.moving(placement)
+        let charge = |edge: &Edge, service, datum| {
+            self.transfer(edge, service, datum) + self.copy(edge, service, datum)
+        };
+        self.standing(placement, |_| true) + self.over_edges(placement, charge)
     }
 
     /// The placement with its cost, and with each amount as a sum of its own.
@@ -159,13 +178,14 @@ impl Description {
         Row {
             cost,
             placement,
-            storage: self.standing(&placement, Block::is_datum),
+            storage: self.standing(&placement, Block::is_datum) + self.copies(&placement),
             transfer: self.moving(&placement),
             cpu: self.standing(&placement, |block| !block.is_datum()),
         }
     }
 
-    /// What some of the blocks are charged where they stand: data for storage, services for cpu.
+    /// What some of the blocks are charged where they stand: data for their time in storage,
+    /// services for cpu.
     fn standing(&self, placement: &Placement, counts: impl Fn(&Block) -> bool) -> u64 {
         let blocks = self.blocks.iter().zip(placement);
         blocks
@@ -176,11 +196,30 @@ impl Description {
 
     /// What all transfers are charged.
     fn moving(&self, placement: &Placement) -> u64 {
-        let charge = |edge: &Edge| {
-            let [service, datum] = edge.ends(placement);
+        self.over_edges(placement, |edge, service, datum| {
             self.transfer(edge, service, datum)
-        };
-        self.edges.iter().map(charge).sum()
+        })
+    }
+
+    /// What all copies are charged.
+    pub fn copies(&self, placement: &Placement) -> u64 {
+        self.over_edges(placement, |edge, service, datum| {
+            self.copy(edge, service, datum)
+        })
+    }
+
+    /// The sum over all edges of a charge, by the clouds of their services and data.
+    fn over_edges(
+        &self,
+        placement: &Placement,
+        charge: impl Fn(&Edge, usize, usize) -> u64,
+    ) -> u64 {
+        let edges = self.edges.iter();
+        let charges = edges.map(|edge| {
+            let [service, datum] = edge.ends(placement);
+            charge(edge, service, datum)
+        });
+        charges.sum()
     }
 }
 

@@ -179,7 +179,7 @@ fn a_row_takes_five_words_and_two_of_scratch() {
     let rows = read(INTERVIEW).expect("the description is accepted").rows();
     let words = list(&rows, 5, [30, 12]).expect("six rows fit");
     assert_eq!(words.len(), 30);
-    assert_eq!(words[5..10], [2840, 0o11110, 1320, 20, 1500]);
+    assert_eq!(words[5..10], [2850, 0o11110, 1330, 20, 1500]);
     let refusal = Refusal {
         number: 16,
         place: 30,

@@ -9,6 +9,8 @@ use Rattle.description.specs.Meaning.{describes}
 use Rattle.costs.specs.declared.answers.Bill.{Bill}
 use Rattle.costs.specs.Cost.{billOf, cost}
 use Rattle.packing.specs.Packing.{digits}
+use Rattle.packing.proofs.Digits.{padded-low}
+use Rattle.sequences.specs.Arrays.{AllBelow}
 use Rattle.visit.specs.Visits.{bestCostAt, bestPlaceAt}
 use Rattle.survey.specs.declared.Row.{Row}
 use Rattle.survey.specs.Answers.{rowOr}
@@ -89,13 +91,21 @@ answered c =
     some-kept d (draw d (a .cursor)) words (kept seen) (c .before .if1 .left) (c .unpacked .result) bytes
 
 bill-of-requires : tie.Need-bill-of-requires
-bill-of-requires c κs = answered c .0
+bill-of-requires c κs =
+    let row = c .before in
+    let seen = row .before .before .before in
+    let place = getD (seen .walk-candidates .last .1 .1 .1 .0) bestPlaceAt 0 in
+    let n = seen .before .before .before .before .block-count .result in (
+      seen .before .before .before .before .before .pre .0 .wellFormed,
+      (subst (AllBelow 8) (sym (row .unpacked .ensures)) (padded-low n place (16 - n)), answered row .0),
+    )
 
 returns-2 : tie.Need-returns-2
 returns-2 c =
-    let words = c .before .before .before .before .walk-candidates .last .1 .1 .1 .0 in
-    let row : Bill → Row = λ bill. record { cost = getD words bestCostAt 0; placement = c .before .unpacked .result; bill = bill } in
-    let drawn = ap (λ bill. some (row bill)) (c .bill-of .ensures) ∙ sym (answered (c .before) .1) in
+    let unpack = c .before .before in
+    let words = unpack .before .before .before .walk-candidates .last .1 .1 .1 .0 in
+    let row : Bill → Row = λ bill. record { cost = getD words bestCostAt 0; placement = unpack .unpacked .result; bill = bill } in
+    let drawn = ap (λ bill. some (row bill)) (c .bill-of .ensures) ∙ sym (answered unpack .1) in
     (drawn, ap rowOr drawn)
 
 pub row-past-spec : {M : Type 1} → statement M

@@ -37,8 +37,11 @@ bill-rows-requires c κs =
     let n = keep .keep-rows .ensures .0 in
     let fits = s .pre .1 .1 in
     let scratch = keep .keep-rows .kept .1 .1 .1 .0 in (
-      (omega (arith, n, fits .1, scratch, sort .sort-rows .kept .0), omega (arith, n, fits .0, sort .sort-rows .kept .1 .0)),
-      subst₂ (AllPriced d) (sym n) (sym (sorted sort)) (keys-priced d (s .pre .0) (drop (keysNeeded d) (s .args .scratch .now))),
+      s .pre .0 .wellFormed,
+      (
+        (omega (arith, n, fits .1, scratch, sort .sort-rows .kept .0), omega (arith, n, fits .0, sort .sort-rows .kept .1 .0)),
+        subst₂ (AllPriced d) (sym n) (sym (sorted sort)) (keys-priced d (s .pre .0) (drop (keysNeeded d) (s .args .scratch .now))),
+      ),
     )
 
 block-count-requires : tie.Need-block-count-requires

@@ -2,7 +2,7 @@
 use Prim.Native.Nat.{ℕ, _+_, _-_, _*_}
 use native.Mathlib.Numerals.{add-one}
 use native.Mathlib.Omega.{arith}
-use mathlib.Core.Path.{_≡_, sym, ap, _∙_}
+use mathlib.Core.Path.{_≡_, sym, ap, subst, _∙_}
 use mathlib.Core.List.{List, [], _∷_, _++_}
 use lib.ListN.{getD, set, replicate, length-set}
 use lib.Seq.{sets}
@@ -10,6 +10,8 @@ use Rattle.costs.specs.declared.answers.Bill.{Bill}
 use Rattle.costs.specs.Cost.{billOf, cost}
 use Rattle.description.specs.Meaning.{describes}
 use Rattle.packing.specs.Packing.{digits}
+use Rattle.packing.proofs.Digits.{padded-low}
+use Rattle.sequences.specs.Arrays.{AllBelow}
 use Rattle.whole_list.specs.Billing.{keyPlacement}
 use borrow.Author.Needs.{needs}
 use Rattle.whole_list.proofs.billing.bill_row.Statement.{statement}
@@ -57,12 +59,16 @@ bytes : (c : tie.After-unpacked) → let a = c .before .before .before .before .
 bytes c =
     let s = c .before .before .before .before .before in
     let place = getD (s .args .keys .now) (s .args .i * 2 + 1) 0 in
-    c .unpacked .ensures ∙ ap (λ n. digits n place ++ replicate (16 - n) 0) (s .pre .0 .0)
+    c .unpacked .ensures ∙ ap (λ n. digits n place ++ replicate (16 - n) 0) (s .pre .1 .1 .0 .0)
 
-bill-of-requires : tie.Need-bill-of-requires
-bill-of-requires c κs =
-    let s = c .before .before .before .before .before in
-    s .pre .1 .1 ∙ ap (cost (describes (s .args .w .now))) (sym (bytes c))
+bill-by-requires : tie.Need-bill-by-requires
+bill-by-requires c κs =
+    let unpack = c .before in
+    let s = unpack .before .before .before .before .before in
+    let place = getD (s .args .keys .now) (s .args .i * 2 + 1) 0 in
+    let low = subst (AllBelow 8) (sym (unpack .unpacked .ensures)) (padded-low (s .args .blocks) place (16 - s .args .blocks)) in
+    let priced = s .pre .1 .1 .1 .1 in
+    (s .pre .0, (s .pre .1 .0, (low, priced ∙ ap (cost (describes (s .args .w .now))) (sym (bytes unpack)))))
 
 mul-put-row : tie.Need-mul-put-row
 mul-put-row c = search needs
@@ -80,7 +86,7 @@ returns : tie.Need-returns
 returns c =
     let put = c .before .before in
     let bill = put .before .before in
-    let s = put .before .before .before .before .before .before .before .before in
+    let s = put .before .before .before .before .before .before .before .before .before in
     let a = s .args in
     let d = describes (a .w .now) in
     let key = a .i * 2 in
@@ -88,7 +94,7 @@ returns c =
     let place = getD (a .keys .now) (key + 1) 0 in
     let words : Bill → List ℕ = λ b. cost ∷ place ∷ b .storage ∷ b .transfer ∷ b .cpu ∷ [] in (
       ap (λ k. set (set (a .keys .now) key 0) k 0) (add-one key),
-      put .put-row .ensures ∙ ap (λ b. sets (a .rows .now) (a .i * 5) (words b)) (bill .bill-of .ensures ∙ ap (billOf d) (bytes (bill .before))),
+      put .put-row .ensures ∙ ap (λ b. sets (a .rows .now) (a .i * 5) (words b)) (bill .bill-by .ensures ∙ ap (billOf d) (bytes (bill .before .before))),
     )
 
 pub bill-row-spec : {M : Type 1} → statement M
@@ -107,7 +113,7 @@ bill-row-spec =
     mul-keys-2
     slice-write-keys-2
     unpacked-requires
-    bill-of-requires
+    bill-by-requires
     mul-put-row
     put-row-requires
     same-length

@@ -1,5 +1,5 @@
--- The test by storage is the test by shares: a datum that does better elsewhere in its option does so on its other end, where only its
--- storage differs.
+-- The test by exchanges is the test by shares: a datum that does better elsewhere in its option does so on its other end, where only its
+-- storage and the cloud of its copy differ.
 use Prim.Native.Nat.{ℕ, _<_}
 use mathlib.Core.Path.{_≡_, refl, sym, ap, _∙_}
 use mathlib.Core.Logic.{_↔_, _⊎_}
@@ -12,8 +12,8 @@ use borrow.Author.Tests.{not-true, not-false}
 use Rattle.description.specs.Format.{Description}
 use Rattle.description.specs.Invariants.{WellFormed}
 use Rattle.security.specs.Soundness.{mayStand}
-use Rattle.options.specs.Representatives.{dataOf, storedOn, share, betterOn, standsLocally, SecureCandidate}
-use Rattle.options.specs.Representatives.{movesTo, exchanges, cheaperOn, standsByStorage, MovesDown}
+use Rattle.options.specs.Representatives.{dataOf, keptOn, share, betterOn, standsLocally, SecureCandidate}
+use Rattle.options.specs.Representatives.{movesTo, exchanges, cheaperOn, standsByExchanges, MovesDown}
 use Rattle.options.proofs.Locality.{data-are}
 use Rattle.options.proofs.Mixing.{cloud-low}
 use Rattle.options.proofs.Moving.{moved-own, moved-services}
@@ -26,9 +26,9 @@ use Rattle.sequences.proofs.Agreeing.{tests-agree}
 use Rattle.sequences.proofs.Orders.{before-irreflexive}
 use Rattle.sequences.proofs.Lexicographic.{pair-before}
 
--- what the test of one datum says: it may stand on k, and its storage there, then k, is lower than its storage on h, then h
+-- what the test of one datum says: it may stand on k, and keeping it there with its copy on h, then k, is lower than the other way, then h
 exchange : (d : Description) (n h k : ℕ)
-    → (exchanges d n h k ≡ true) ↔ ((mayStand d n k ≡ true) × (before (storedOn d n k ∷ k ∷ []) (storedOn d n h ∷ h ∷ []) ≡ true))
+    → (exchanges d n h k ≡ true) ↔ ((mayStand d n k ≡ true) × (before (keptOn d n k h ∷ k ∷ []) (keptOn d n h k ∷ h ∷ []) ≡ true))
 unfolding exchanges
 exchange d n h k = both-pass _ _
 
@@ -62,8 +62,8 @@ module _ (d : Description) (w : WellFormed d) (p : List ℕ) (c : SecureCandidat
   moves-datum : (n k : ℕ) → n < length (d .blocks) → movesTo d p n ≡ some k → List·Memᴰ n (dataOf d)
   moves-datum n k h e = data-are d n .1 (h, not-failed _ (λ f. Option·some-ne-none k (sym e ∙ service-still d w p n f)))
 
-  local-storage : standsLocally d p ≡ true → (n : ℕ) → n < length (d .blocks) → cheaperOn d p n (movesTo d p n) ≡ false
-  local-storage s n h = go (movesTo d p n) refl
+  local-exchanges : standsLocally d p ≡ true → (n : ℕ) → n < length (d .blocks) → cheaperOn d p n (movesTo d p n) ≡ false
+  local-exchanges s n h = go (movesTo d p n) refl
     where
       go : (to : Option ℕ) → movesTo d p n ≡ to → cheaperOn d p n to ≡ false
       go none e = refl
@@ -71,27 +71,27 @@ module _ (d : Description) (w : WellFormed d) (p : List ℕ) (c : SecureCandidat
           let m = moves-datum n k h e in
           true≢false (sym (better n m k e t) ∙ stands-if d p .0 s n m k (cloud-low d w n k h (exchange d n (getD p n 0) k .0 t .0))))
 
-  storage-if : (standsByStorage d p ≡ true) ↔ ((n : ℕ) → n < length (d .blocks) → cheaperOn d p n (movesTo d p n) ≡ false)
-  unfolding standsByStorage
-  storage-if =
+  exchanges-if : (standsByExchanges d p ≡ true) ↔ ((n : ℕ) → n < length (d .blocks) → cheaperOn d p n (movesTo d p n) ≡ false)
+  unfolding standsByExchanges
+  exchanges-if =
       let each = none-members (λ n. cheaperOn d p n (movesTo d p n)) (below (length (d .blocks))) in
       (λ t n h. each .0 (not-true _ t) n (below-members _ n .1 h), λ h. ap not (each .1 (λ n m. h n (below-members _ n .0 m))))
 
-  -- The test by storage passes exactly where the test by shares does.
-  pub storage-is-local : standsByStorage d p ≡ standsLocally d p
-  storage-is-local = tests-agree (standsByStorage d p) (standsLocally d p) (
-    λ s. stands-if d p .1 (λ n m k _. not-passed _ (λ t. true≢false (sym (cheaper n m k t) ∙ storage-if .0 s n (data-are d n .0 m .0)))),
-    λ s. storage-if .1 (local-storage s),
+  -- The test by exchanges passes exactly where the test by shares does.
+  pub exchanges-are-local : standsByExchanges d p ≡ standsLocally d p
+  exchanges-are-local = tests-agree (standsByExchanges d p) (standsLocally d p) (
+    λ s. stands-if d p .1 (λ n m k _. not-passed _ (λ t. true≢false (sym (cheaper n m k t) ∙ exchanges-if .0 s n (data-are d n .0 m .0)))),
+    λ s. exchanges-if .1 (local-exchanges s),
   )
 
   -- They fail exactly where some datum moves down.
   pub moves-down : (standsLocally d p ≡ false) ↔ ((n : ℕ) × (k : ℕ) × MovesDown d p n k)
-  unfolding standsByStorage
+  unfolding standsByExchanges
   moves-down = (
     λ f.
-        let (n, m, t) = any-members test blocks .0 (not-false _ (storage-is-local ∙ f)) in
+        let (n, m, t) = any-members test blocks .0 (not-false _ (exchanges-are-local ∙ f)) in
         go n (below-members (length (d .blocks)) n .0 m) (movesTo d p n) refl t,
-    λ (n, k, down). sym storage-is-local ∙ ap not (any-members test blocks .1 (
+    λ (n, k, down). sym exchanges-are-local ∙ ap not (any-members test blocks .1 (
       n,
       below-members (length (d .blocks)) n .1 (down .declared),
       rw (down .moves) (exchange d n (getD p n 0) k .1 (down .stands, lexicographic n k .1 (down .lower))),
@@ -104,9 +104,15 @@ module _ (d : Description) (w : WellFormed d) (p : List ℕ) (c : SecureCandidat
       test : ℕ → Bool
       test n = cheaperOn d p n (movesTo d p n)
 
-      lexicographic : (n k : ℕ) → (before (storedOn d n k ∷ k ∷ []) (storedOn d n (getD p n 0) ∷ getD p n 0 ∷ []) ≡ true)
-          ↔ ((storedOn d n k < storedOn d n (getD p n 0)) ⊎ ((storedOn d n k ≡ storedOn d n (getD p n 0)) × (k < getD p n 0)))
-      lexicographic n k = pair-before (storedOn d n k) k (storedOn d n (getD p n 0)) (getD p n 0)
+      here : (n k : ℕ) → ℕ
+      here n k = keptOn d n (getD p n 0) k
+
+      there : (n k : ℕ) → ℕ
+      there n k = keptOn d n k (getD p n 0)
+
+      lexicographic : (n k : ℕ) → (before (there n k ∷ k ∷ []) (here n k ∷ getD p n 0 ∷ []) ≡ true)
+          ↔ ((there n k < here n k) ⊎ ((there n k ≡ here n k) × (k < getD p n 0)))
+      lexicographic n k = pair-before (there n k) k (here n k) (getD p n 0)
 
       go : (n : ℕ) → n < length (d .blocks) → (to : Option ℕ) → movesTo d p n ≡ to → cheaperOn d p n to ≡ true → (n : ℕ) × (k : ℕ) × MovesDown d p n k
       go n h none e t = absurd (false≢true t)
