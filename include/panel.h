@@ -66,7 +66,7 @@
 #define PANEL_ROW 5          /* words of a row in a list */
 #define PANEL_LIST 327680    /* words that hold the rows of any description */
 #define PANEL_SCRATCH 131072 /* words of scratch that are enough for any description */
-#define PANEL_STACK 32768    /* bytes of stack that are enough for any call: the deepest, panel_list, takes some 23,000 */
+#define PANEL_STACK 32768    /* bytes of stack that are enough for any call: the deepest takes some 23,000 */
 
 #define PANEL_NUMBER(status) ((unsigned)((status) & 255))
 #define PANEL_PLACE(status) ((uint64_t)(status) >> 8)
