@@ -12,21 +12,25 @@
  *     2      there is no such command                                               its offset
  *     3      something stands behind the end command                                its offset
  *     4      a cloud, block, edge or pair more than there may be                    offset of the command
- *     5      a level, location or clearance over 15                                 offset of the command
+ *     5      a label, location or clearance above 63                                offset of the command
  *     6      it names what is not there, or what is of the wrong kind               offset of the command
  *     7      the edge or pair is there already; the datum has a writer, the block   offset of the command
  *            a pin; a datum is paired with itself
  *     8      no cloud, or no block                                                  the length
- *     9      rule 2: a service's location is above its clearance                    block
- *    10      rule 3: a service reads above its clearance                            edge
- *    11      rule 4: a service writes below its location                            edge
+ *     9      rule 2: a service's clearance does not cover its location              block
+ *    10      rule 3: a service reads a datum that its clearance does not cover      edge
+ *    11      rule 4: a service writes a datum that does not cover its location      edge
  *    12      more than 65,536 candidates                                            0
  *    13      the placement is no candidate (panel_judge, panel_transfers,           position of the byte
  *            panel_picture, panel_picture_size)
- *    14      rule 16: a read copies a datum to too low a cloud (the same four)      edge
+ *    14      rule 16: a read copies a datum to a cloud that does not cover it       edge
+ *            (the same four)
  *    15      rule 17: a write does (the same four)                                  edge
  *    16      too little room (panel_transfers, panel_picture, panel_list)           bytes, or words of rows, that are needed
  *    17      a cloud holds both data of a pair (the four of 13)                     pair
+ *
+ * Locations and clearances are labels, as clouds and data have them: bits 0 to 3 are a level, bit 4 is the embargo mark, bit 5 the source
+ * mark. A label covers another if its level is as high at least and it has every mark of the other.
  *
  * A pair is two data that command 07 keeps apart; pairs are numbered from 0, and copies that transfers make count. A placement is looked
  * at for 13, 14, 15 and 17 in this order, and 16 comes last.

@@ -5,6 +5,7 @@
     bruteforce.py list                               a description in, its rows out
     bruteforce.py generate [--letters RJTCDPBM] DIR  write DIR/stdin and DIR/stdout
     bruteforce.py check [--letters RJTCDPBM] DIR     are they what would be written today?
+    bruteforce.py kept DIR                           do those from before answer as they did?
 
 Parts: the cases that are stored, letter by letter; the checks; the command line.
 """
@@ -22,16 +23,21 @@ from cases import (ACROSS, ALL_READ, APART_COMMANDS, EIGHT_APART, EIGHT_CLOUDS, 
                    MIXED_COMMANDS, MIXED_EDGES, M_APART, M_COMMANDS, PAIR, PAIRS_OF_FIVE,
                    REFUSED_BY_READ, SECOND, SIXTEEN_BLOCKS, SIXTEEN_PINS, SOME_WRITE, STEPS, STOP,
                    THIRTY_TWO_EDGES, TRIO, TWO_BY_TWO, Known, accepted, add_random_pairs,
-                   answer_all, apart, apart_workflow, assorted_candidates, bend, census_case, cloud,
-                   commands_of, counted, cursor_bytes, damage_bytes, damage_commands, datum,
-                   dice_of, draw_case, fork, judge_case, masks_case, meeting, picture_case, pin,
-                   pipe, placed, random_placement, random_text, random_workflow, read_case, reads,
-                   refused, refused_at_each, rooms, row_line, ruled, service, size_case, spoil,
-                   start_case, stores, together, transfers_case, untouched, verdict, with_buffer,
+                   answer_all, apart, apart_workflow, assorted_candidates, bend, cases_in,
+                   census_case, cloud, commands_of, counted, cursor_bytes, damage_bytes,
+                   damage_commands, datum, dice_of, draw_case, fork, given_transfers, highest_level,
+                   judge_case, masks_case, meeting, picture_case, pin, pipe, placed,
+                   random_placement, random_text, random_workflow, read_case, reads, refused,
+                   refused_at_each, refused_transfers, rooms, row_line, ruled, service, size_case,
+                   spoil, start_case, stores, together, transfers_case, untouched, verdict,
                    with_length, writes)
 from copy_cases import COPIES, COPY_TRANSFERS, copy_traits, crossings, shorten, storage_misfit
+from label_cases import (KINDS, LABELLED, REFUSED_BY_MARKS, highest_label, label_judgements,
+                         label_masks, label_pictures, label_reads, label_sizes, label_table,
+                         label_traits, label_transfers, listed_alike, missing_labels,
+                         pairs_in_masks, spoilt_text, text_of_marks)
 from mask_cases import mask_cases, misfit, missing_masks
-from model import (HIGHEST, MOST_BLOCKS, MOST_CANDIDATES, MOST_CLOUDS, MOST_EDGES, MOST_PAIRS,
+from model import (HIGHEST_LEVEL, MOST_BLOCKS, MOST_CANDIDATES, MOST_CLOUDS, MOST_EDGES, MOST_PAIRS,
                    READS, WRITES, Amounts, Cloud, Datum, Description, Edge, Refused, Row, Service,
                    allowed, candidates, census, count_candidates, decode, digits, draw, gigabytes,
                    is_secure, judge, keeps_rule_3, keeps_rule_4, listing, masks, moves, option_of,
@@ -70,9 +76,9 @@ def read_cut_short():
 def read_cut_short_and_at_fault():
     """A command that ends too early is that, however bad its other bytes are."""
     for before, command in (
-            (EIGHT_CLOUDS, cloud()), (EIGHT_CLOUDS, cloud(16)), (PAIR, cloud(255)),
-            (SIXTEEN_BLOCKS, datum()), (SIXTEEN_BLOCKS, service(16, 16)),
-            (PAIR, datum(16)), (PAIR, service(16, 0)), (PAIR, service(0, 255)),
+            (EIGHT_CLOUDS, cloud()), (EIGHT_CLOUDS, cloud(64)), (PAIR, cloud(255)),
+            (SIXTEEN_BLOCKS, datum()), (SIXTEEN_BLOCKS, service(64, 64)),
+            (PAIR, datum(64)), (PAIR, service(64, 0)), (PAIR, service(0, 255)),
             (THIRTY_TWO_EDGES, reads(15, 7)), (THIRTY_TWO_EDGES, writes(255, 255)),
             (PAIR, reads(0, 1)), (PAIR, writes(9, 9)), (PAIR, pin(7, 7)), (PAIR, pin(0, 9)),
             (PAIR + reads(1, 0), reads(1, 0)), (PAIR + writes(1, 0), writes(1, 0)),
@@ -128,10 +134,10 @@ def read_limits():
     yield accepted(cloud() + service() * 16 + STOP, 1, 16, 0)
     yield accepted(THIRTY_TWO_EDGES[:-3] + STOP, 2, 16, 31)
     for before in (EIGHT_CLOUDS, EIGHT_CLOUDS + datum(), LONGEST[:-1]):
-        yield from refused_at_each(4, before, cloud(), cloud(15), cloud(16), cloud(255))
+        yield from refused_at_each(4, before, cloud(), cloud(15), cloud(64), cloud(255))
     for before in (SIXTEEN_BLOCKS, LONGEST[:-1], datum() * 16, service() * 16):
-        yield from refused_at_each(4, before, datum(), service(), datum(16), datum(255),
-                                   service(16, 0), service(0, 16), service(2, 1))
+        yield from refused_at_each(4, before, datum(), service(), datum(64), datum(255),
+                                   service(64, 0), service(0, 64), service(2, 1))
     for before in (THIRTY_TWO_EDGES, MIXED_EDGES):
         yield from refused_at_each(
             4, before, reads(15, 7), writes(15, 7),        # these two names are sound
@@ -139,18 +145,17 @@ def read_limits():
             reads(0, 8), reads(16, 0), writes(15, 16), writes(255, 255))
 
 
-def read_heights():
-    for height in (0, 1, 14, 15):
-        yield accepted(cloud(height) + datum(height) + STOP, 1, 1, 0)
-        yield accepted(cloud(height) + service(height, height) + STOP, 1, 1, 0)
-        yield accepted(cloud(15) + service(height, 15) + STOP, 1, 1, 0)
-    for height in (16, 17, 31, 32, 127, 128, 255):
+def read_labels():
+    for label in (0, 1, 14, 15):
+        yield accepted(cloud(label) + datum(label) + STOP, 1, 1, 0)
+        yield accepted(cloud(label) + service(label, label) + STOP, 1, 1, 0)
+        yield accepted(cloud(15) + service(label, 15) + STOP, 1, 1, 0)
+    for label in (64, 65, 79, 80, 127, 128, 255):
         for before in (b"", PAIR, M[:-1]):
-            yield from refused_at_each(5, before, cloud(height), datum(height),
-                                       service(height, 0), service(0, height),
-                                       service(height, height))
+            yield from refused_at_each(5, before, cloud(label), datum(label), service(label, 0),
+                                       service(0, label), service(label, label))
     for before in (EIGHT_CLOUDS, EIGHT_CLOUDS + datum() * 15):
-        yield from refused_at_each(5, before, datum(16), service(15, 16), service(16, 15))
+        yield from refused_at_each(5, before, datum(64), service(15, 64), service(64, 15))
 
 
 def read_names():
@@ -280,7 +285,7 @@ def read_counted(choices):
 
 
 def read_first_fault_decides():
-    faults = [(2, b"\x09"), (5, cloud(16)), (5, service(0, 16)), (6, reads(0, 0)),
+    faults = [(2, b"\x09"), (5, cloud(64)), (5, service(0, 64)), (6, reads(0, 0)),
               (6, pin(0, 7)), (7, reads(1, 0)), (7, pin(1, 0)), (6, apart(0, 1)),
               (7, apart(0, 0))]
     before = PAIR + reads(1, 0) + pin(1, 0)
@@ -404,7 +409,7 @@ def read_random(dice):
 
 def read_cases(dice):
     for part in (read_cut_short, read_cut_short_and_at_fault, read_unknown, read_past_the_end, read_limits,
-                 read_heights, read_names, read_repeats, read_nothing_there, read_rules, read_candidate_counts,
+                 read_labels, read_names, read_repeats, read_nothing_there, read_rules, read_candidate_counts,
                  read_first_fault_decides, read_shapes, read_apart):
         yield from part()
     yield from read_random(dice)
@@ -677,20 +682,6 @@ def judge_cases(dice):
 
 
 # ---- The stored cases: Transfers ------------------------------------------------------
-
-def refused_transfers(text, placement, room, number, place):
-    expected = with_buffer(f"refused {number} {place}", untouched(room))
-    return transfers_case(text, placement, room, expected)
-
-
-def given_transfers(text, placement, room, entries):
-    """A case whose transfers are known; a room too short for them is refused."""
-    filled = bytes(itertools.chain.from_iterable(entries))
-    if room < len(filled):
-        return refused_transfers(text, placement, room, 16, len(filled))
-    buffer = filled + untouched(room - len(filled))
-    return transfers_case(text, placement, room, with_buffer(f"transfers {len(entries)}", buffer))
-
 
 def transfers_by_hand():
     for text, number, place in REFUSED_BY_READ:
@@ -1088,7 +1079,7 @@ def random_flows(dice, most):
     rates, top = dice.choice(RATES), dice.choice((0, 0, 0, 1, 1, 2))
     made.clouds = [Cloud(dice.between(0, top), *(dice.choice(rates) for _ in range(4)))
                    for _ in range(dice.choice((2, 2, 2, 3, 3, 4, 8)))]
-    highest = max(each.level for each in made.clouds)
+    highest = highest_level(made)
     made.blocks = dice.shuffled([random_flow_service(dice, highest)
                                  for _ in range(dice.between(1, 4))]
                                 + [random_flow_datum(dice, highest)
@@ -1100,7 +1091,7 @@ def random_flows(dice, most):
 
 def random_flow_service(dice, highest):
     location = dice.choice((0, 0, 0, dice.between(0, highest)))
-    return Service(location, HIGHEST, dice.choice((0, 0, 1, 1, 2, 50, 0xFFFFFFFF)))
+    return Service(location, HIGHEST_LEVEL, dice.choice((0, 0, 1, 1, 2, 50, 0xFFFFFFFF)))
 
 
 def random_flow_datum(dice, highest):
@@ -1245,6 +1236,21 @@ def census_copies(dice):
     for most in (8, 30, 100, 300):
         for _ in range(10):
             yield census_case(brief_text(dice, most))
+
+
+def census_labels(dice):
+    for text, number, place in REFUSED_BY_MARKS:
+        yield census_case(text, f"refused {number} {place}")
+    for known in LABELLED:
+        yield census_case(known.text, census_line(known.counts))
+    for text, plain in listed_alike():
+        yield census_case(text, census_line(census(plain)))
+    for most in (8, 30, 100, 300):
+        for _ in range(20):
+            yield census_case(text_of_marks(dice, random_flows(dice, most)))
+        for _ in range(5):
+            yield census_case(text_of_marks(dice, apart_flows(dice, most)))
+            yield census_case(spoilt_text(dice, random_flows(dice, most)))
 
 
 def census_cases(dice):
@@ -1488,6 +1494,22 @@ def draw_copies(dice):
         yield from draw_at_random(dice, text, 5)
 
 
+def draw_labels(dice):
+    """Whole lists of descriptions with marks, by hand and by those without; and random ones."""
+    for text, number, place in REFUSED_BY_MARKS:
+        yield draw_case(text, None, f"refused {number} {place}")
+    for known in LABELLED:
+        yield from chain(known.text, known.found())
+    for text, plain in listed_alike():
+        yield from chain(text, rows(plain))
+    for number in range(28):
+        text = text_of_marks(dice, random_flows(dice, dice.choice((8, 24, 24, 64, 64, 200))))
+        yield from from_the_start(number, text)
+        yield from draw_at_random(dice, text, 3)
+    for _ in range(20):
+        yield draw_case(spoilt_text(dice, random_flows(dice, 30)), random_cursor(dice))
+
+
 def draw_random(dice):
     for number in range(80):
         text = flow_text(dice, dice.choice((8, 24, 24, 64, 64, 200, 600)))
@@ -1521,10 +1543,12 @@ def draw_cases(dice):
 
 # ---- The stored cases: all of them ----------------------------------------------------
 
-# In the order in which they are stored.  Each group has dice of its own, so a letter
-# that is added here at the end leaves what stands before it as it is.
-GROUPS = {"R": read_cases, "J": judge_cases, "T": transfers_cases, "C": census_cases,
-          "D": draw_cases, "P": picture_cases, "B": size_cases, "M": mask_cases}
+# In the order in which they are stored.  Each group has dice of its own, so a letter, or a
+# part of one, that is added here at the end leaves what stands before it as it is.
+GROUPS = {"R": (read_cases, label_reads), "J": (judge_cases, label_judgements),
+          "T": (transfers_cases, label_transfers), "C": (census_cases, census_labels),
+          "D": (draw_cases, draw_labels), "P": (picture_cases, label_pictures),
+          "B": (size_cases, label_sizes), "M": (mask_cases, label_masks)}
 
 NUMBERS_DUE = {"R": range(1, 13), "J": (*range(1, 16), 17), "T": range(1, 18),
                "C": range(1, 13), "D": range(1, 13), "P": range(1, 18),
@@ -1533,9 +1557,10 @@ NUMBERS_DUE = {"R": range(1, 13), "J": (*range(1, 16), 17), "T": range(1, 18),
 
 def stored_cases(letters):
     seen = set()                                           # the same bytes twice teach nothing,
-    for letter, group in GROUPS.items():                   # but for draws that are repeated
+    for letter, parts in GROUPS.items():                   # but for draws that are repeated
         if letter in letters:
-            for case in group(dice_of(letter)):
+            dice = dice_of(letter)
+            for case in itertools.chain.from_iterable(part(dice) for part in parts):
                 if case.again or case.content not in seen:
                     yield case
                 seen.add(case.content)
@@ -1812,6 +1837,7 @@ def traits(text):
         "sixteen blocks": len(described.blocks) == MOST_BLOCKS,
         "thirty-two edges": len(described.edges) == MOST_EDGES,
         **copy_traits(text),
+        **label_traits(text),
     }
 
 
@@ -1880,6 +1906,29 @@ def check_masks(cases, lines):
     require(not missing, f"no answer of Masks shows {missing}")
     print(f"{len(answered)} masks beside their candidates; "
           + ", ".join(f"{kind}: {times}" for kind, times in sorted(seen.items())))
+    check_table(answered)
+
+
+def check_labels(letter, answered):
+    """What the cases of a letter show of labels and their marks."""
+    missing, seen = missing_labels(letter, answered)
+    require(not missing, f"no case of {letter} shows {missing}")
+    least = min(seen[kind] for kind in KINDS[letter])
+    print(f"{letter}: {sum(highest_label(case.text()) > HIGHEST_LEVEL for case, _ in answered)} "
+          f"cases with a label above 15; {len(KINDS[letter])} kinds, the rarest {least} times")
+
+
+def check_table(answered):
+    """Every two labels beside each other, as Masks answers and as the stored table has them."""
+    path = ROOT / "crates" / "labeltable" / "stdout"
+    check_same(path, stored_bytes(path), label_table().encode("ascii"))
+    table = label_table().splitlines()
+    met = set()
+    for is_datum, upper, lower, is_covered in pairs_in_masks(answered):
+        met.add((is_datum, upper, lower))
+        require(is_covered == (table[upper][lower] == "1"), f"masks: {upper} beside {lower}")
+    require(len(met) == 2 * len(table) ** 2, f"masks: only {len(met)} pairs of labels")
+    print(f"{len(met)} pairs of labels, of data and of services, as in the table")
 
 
 def check_numbers(letter, lines):
@@ -1911,9 +1960,28 @@ def check(letters, directory):
     if "M" in letters:
         check_masks(cases, lines)
     for letter in letters:
-        own = [line for case, line in zip(cases, lines) if case.letter() == letter]
+        answered = [(case, line) for case, line in zip(cases, lines) if case.letter() == letter]
+        own = [line for _, line in answered]
         check_numbers(letter, own)
         print(summary(letter, own))
+        check_labels(letter, answered)
+
+
+def kept(directory):
+    """Cases stored before labels had marks: without a label above 15 they answer as before."""
+    cases = list(cases_in(stored_bytes(directory / "stdin")))
+    stored = stored_bytes(directory / "stdout").decode("ascii").splitlines()
+    require(len(stored) == len(cases), f"{directory}: not one line for each case")
+    without = changed = 0
+    for case, before, today in zip(cases, stored, answer_all(contents_of(cases), LETTERS)):
+        if highest_label(case.text()) <= HIGHEST_LEVEL:
+            require(before == today, f"{before}, and today {today}: {case.content.hex()}")
+            without += 1
+        else:
+            changed += before != today
+    require(without > 0, f"{directory}: no case without a label above {HIGHEST_LEVEL}")
+    print(f"{len(cases)} cases, {without} without a label above {HIGHEST_LEVEL}: all the same; "
+          f"of the {len(cases) - without} others {changed} changed")
 
 
 def generate(letters, directory):
@@ -1945,6 +2013,8 @@ def main():
         command = commands.add_parser(name, help=words)
         command.add_argument("--letters", type=letters_from(stored), default=stored)
         command.add_argument("directory", metavar="DIR", type=Path)
+    command = commands.add_parser("kept", help="answer older cases that have no marks, as then")
+    command.add_argument("directory", metavar="DIR", type=Path)
     given = parser.parse_args()
     if given.command == "answer":
         sys.stdout.buffer.write(text_of(answer_all(sys.stdin.buffer.read(), given.letters)))
@@ -1952,6 +2022,8 @@ def main():
         sys.stdout.buffer.write(text_of(listing(sys.stdin.buffer.read())))
     elif given.command == "generate":
         generate(given.letters, given.directory)
+    elif given.command == "kept":
+        kept(given.directory)
     else:
         check(given.letters, given.directory)
 

@@ -10,11 +10,12 @@ import random
 from collections import Counter
 from typing import NamedTuple
 
-from model import (APART, CLOUD, DATUM, END, HIGHEST, MOST_BLOCKS, MOST_CANDIDATES, MOST_PAIRS,
-                   PIN, READS, SERVICE, WIDTHS, WRITES, Amounts, Cloud, Datum, Description, Edge,
-                   Refused, Row, Service, allowed, census, check_placement, count_candidates, draw,
-                   judge, keeps_rule_3, keeps_rule_4, masks, one_too_many, picture, picture_size,
-                   read, said_before, transfers)
+from model import (APART, CLOUD, DATUM, END, HIGHEST_LABEL, HIGHEST_LEVEL, MOST_BLOCKS,
+                   MOST_CANDIDATES, MOST_PAIRS, PIN, READS, SERVICE, WIDTHS, WRITES, Amounts,
+                   Cloud, Datum, Description, Edge, Refused, Row, Service, allowed, census,
+                   check_placement, count_candidates, covers, draw, judge, keeps_rule_3,
+                   keeps_rule_4, level, masks, one_too_many, picture, picture_size, read,
+                   said_before, transfers)
 
 
 # ---- Cases and their answers ----------------------------------------------------------
@@ -118,6 +119,9 @@ def masks_line(found):
     return f"masks {found.hex()}"
 
 
+# Bytes behind the description.
+OPERANDS = {"R": 0, "J": 16, "C": 0, "D": 25, "T": 18, "P": 18, "B": 16, "M": 0}
+
 ANSWERS = {"R": answer_read, "J": answer_judge, "C": answer_census, "D": answer_draw,
            "T": answer_transfers, "P": answer_picture, "B": answer_size, "M": answer_masks}
 
@@ -164,6 +168,15 @@ class Case(NamedTuple):
         return self.content[after:after + 16]
 
 
+def cases_in(content):
+    """The cases of which a file of them is made; the answers are not known."""
+    tape = Tape(content)
+    while not tape.ended():
+        letter = tape.take(1)
+        text = tape.take(tape.number(2))
+        yield Case(with_length(letter, text) + tape.take(OPERANDS[letter.decode("ascii")]), None)
+
+
 class Dice:
     """Chance from Random.random alone, whose sequence Python promises to keep."""
 
@@ -200,12 +213,12 @@ def encode(command, *operands):
     return bytes([command]) + b"".join(value.to_bytes(width, "big") for value, width in pairs)
 
 
-def cloud(height=0, storage=0, inward=0, outward=0, cpu=0):
-    return encode(CLOUD, height, storage, inward, outward, cpu)
+def cloud(label=0, storage=0, inward=0, outward=0, cpu=0):
+    return encode(CLOUD, label, storage, inward, outward, cpu)
 
 
-def datum(height=0, size=0, longevity=0):
-    return encode(DATUM, height, size, longevity)
+def datum(label=0, size=0, longevity=0):
+    return encode(DATUM, label, size, longevity)
 
 
 def service(location=0, clearance=0, units=0):
@@ -261,6 +274,20 @@ def masks_case(text, expected=None):
 
 def census_case(text, expected=None):
     return Case(with_length(b"C", text), expected)
+
+
+def refused_transfers(text, placement, room, number, place):
+    expected = with_buffer(f"refused {number} {place}", untouched(room))
+    return transfers_case(text, placement, room, expected)
+
+
+def given_transfers(text, placement, room, entries):
+    """A case whose transfers are known; a room too short for them is refused."""
+    filled = bytes(itertools.chain.from_iterable(entries))
+    if room < len(filled):
+        return refused_transfers(text, placement, room, 16, len(filled))
+    buffer = filled + untouched(room - len(filled))
+    return transfers_case(text, placement, room, with_buffer(f"transfers {len(entries)}", buffer))
 
 
 def draw_case(text, cursor, expected=None, again=False):
@@ -384,7 +411,7 @@ REFUSED_BY_READ = [
     (SIXTEEN_BLOCKS + datum() + STOP, 4, 124),
     (THIRTY_TWO_EDGES + reads(15, 0) + STOP, 4, 220),
     (EIGHT_PAIRS + apart(4, 3) + STOP, 4, 81),
-    (PAIR + datum(16) + STOP, 5, 23),
+    (PAIR + datum(64) + STOP, 5, 23),
     (PAIR + reads(0, 1) + STOP, 6, 23),
     (FILES + apart(0, 4) + STOP, 6, 48),
     (PAIR + pin(0, 0) + pin(0, 0) + STOP, 7, 26),
@@ -422,12 +449,12 @@ def stores(*rates):
     return b"".join(cloud(0, rate) for rate in rates)
 
 
-def pipe(what=datum(0, 10, 1), order="wdr", edges="wr"):
+def pipe(what=datum(0, 10, 1), order="wdr", edges="wr", clearance=HIGHEST_LEVEL):
     """A writer, a datum and its only reader, the one shape in which two homes are one option.
 
     The letters w, d, r say in which order the blocks are declared, and then the edges.
     """
-    blocks = {"w": service(0, HIGHEST), "d": what, "r": service(0, HIGHEST)}
+    blocks = {"w": service(0, clearance), "d": what, "r": service(0, clearance)}
     links = {"w": writes(order.index("w"), order.index("d")),
              "r": reads(order.index("r"), order.index("d"))}
     return b"".join(blocks[each] for each in order) + b"".join(links[each] for each in edges)
@@ -468,12 +495,20 @@ def random_workflow(dice):
     made = Description()
     top = dice.choice((0, 1, 1, 2, 2, 3, 5, 15))
     made.clouds = [random_cloud(dice, top) for _ in range(dice.choice((1, 2, 2, 3, 3, 4, 5, 8)))]
-    highest = max(each.level for each in made.clouds)
+    highest = highest_level(made)
     made.blocks = [random_block(dice, highest)
                    for _ in range(dice.choice((1, 2, 3, 4, 5, 6, 7, 8, 9, 10, 12, 16)))]
     add_random_edges(dice, made)
     add_random_pins(dice, made)
     return made
+
+
+def highest_level(made):
+    return max(level(each.label) for each in made.clouds)
+
+
+def random_level(dice):
+    return dice.below(HIGHEST_LEVEL + 1)
 
 
 def random_number(dice, most):
@@ -489,7 +524,8 @@ def random_block(dice, highest):
         return Datum(dice.between(0, highest), random_number(dice, 0xFFFF),
                      random_number(dice, 0xFFFF))
     location = min(dice.between(0, highest), dice.between(0, highest))
-    clearance = dice.choice((HIGHEST, dice.between(location, HIGHEST), max(location, highest)))
+    clearance = dice.choice((HIGHEST_LEVEL, dice.between(location, HIGHEST_LEVEL),
+                             max(location, highest)))
     return Service(location, clearance, random_number(dice, 0xFFFFFFFF))
 
 
@@ -525,9 +561,9 @@ def spoil(dice, made):
     elif kind == 1:
         made.pins[block] = dice.below(len(made.clouds))
     elif isinstance(made.blocks[block], Datum):
-        made.blocks[block] = made.blocks[block]._replace(level=dice.below(16))
+        made.blocks[block] = made.blocks[block]._replace(label=random_level(dice))
     else:
-        made.blocks[block] = Service(dice.below(16), dice.below(16), dice.below(1000))
+        made.blocks[block] = Service(random_level(dice), random_level(dice), dice.below(1000))
 
 
 def commands_of(dice, made):
@@ -618,14 +654,18 @@ def apart_workflow(dice):
 
 # ---- Random placements and lengths of buffers -----------------------------------------
 
+def labels_covered(label):
+    return sum(covers(label, other) for other in range(HIGHEST_LABEL + 1))
+
+
 def random_candidate(dice, made):
-    """Half of the time near the highest cloud, where most placements are secure."""
+    """Half of the time near the cloud that covers most, where most placements are secure."""
     choices = [allowed(made, b) for b in range(len(made.blocks))]
     clouds = [dice.choice(choice) for choice in choices]
     if dice.one_in(2):
         for b, choice in enumerate(choices):
             if not dice.one_in(4):
-                clouds[b] = max(choice, key=lambda k: made.clouds[k].level)
+                clouds[b] = max(choice, key=lambda k: labels_covered(made.clouds[k].label))
     return placed(*clouds)
 
 

@@ -19,12 +19,10 @@ import subprocess
 import sys
 
 from bruteforce import ROOT, require, stored_bytes
-from cases import Tape, cursor_bytes, known_row, row_line, verdict, with_length
+from cases import cases_in, cursor_bytes, known_row, row_line, verdict, with_length
 from model import Refused, count_candidates, listing, read, row_at
 
 PROGRAMS = ROOT / "target" / "bin"
-# Bytes behind the description.
-OPERANDS = {"R": 0, "J": 16, "C": 0, "D": 25, "T": 18, "P": 18, "B": 16, "M": 0}
 NUMBER = r"(0|[1-9][0-9]*)"
 ROW = re.compile(rf"{NUMBER} ([0-7]+) {NUMBER} {NUMBER} {NUMBER}")
 MOST_DRAWS = 100
@@ -33,12 +31,8 @@ QUICK = 300
 
 def stored_texts():
     """Each description once: of the cases, and the examples."""
-    tape = Tape(stored_bytes(ROOT / "crates" / "callcases" / "stdin"))
-    texts = {}
-    while not tape.ended():
-        letter = chr(tape.number(1))
-        texts[tape.take(tape.number(2))] = None
-        tape.take(OPERANDS[letter])
+    stored = stored_bytes(ROOT / "crates" / "callcases" / "stdin")
+    texts = dict.fromkeys(case.text() for case in cases_in(stored))
     for name in ("interview", "second", "apart"):
         texts[stored_bytes(ROOT / "examples" / f"{name}.bin")] = None
     return list(texts)

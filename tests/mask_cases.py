@@ -10,10 +10,10 @@ from collections import Counter
 from cases import (APART_COMMANDS, EIGHT_CLOUDS, EIGHT_PAIRS, GUARDED, LONGEST, LONGEST_APART, M,
                    MIXED_COMMANDS, MIXED_EDGES, M_APART, REFUSED_BY_READ, SECOND, STEPS, STOP,
                    THIRTY_TWO_EDGES, add_random_edges, cloud, commands_of, counted, damage_bytes,
-                   damage_commands, datum, masks_case, masks_line, meeting, pin, random_block,
-                   random_cloud, reads, service, spoil, writes)
-from model import (HIGHEST, MOST_BLOCKS, MOST_CANDIDATES, MOST_CLOUDS, Datum, Description,
-                   allowed, candidates, count_candidates, covers, decode, level, masks_of, read)
+                   damage_commands, datum, highest_level, masks_case, masks_line, meeting, pin,
+                   random_block, random_cloud, reads, service, spoil, writes)
+from model import (HIGHEST_LEVEL, MOST_BLOCKS, MOST_CANDIDATES, MOST_CLOUDS, Datum, Description,
+                   allowed, candidates, count_candidates, covers, decode, label_of, masks_of, read)
 
 
 # ---- Masks written down by hand -------------------------------------------------------
@@ -197,10 +197,9 @@ QUICK = 300                     # candidates, so that their lists are short
 def levelled_workflow(dice):
     """Mixed levels and pins, rarely such that a block may stand nowhere."""
     made = Description()
-    top = dice.choice((1, 1, 2, 3, 7, HIGHEST))
+    top = dice.choice((1, 1, 2, 3, 7, HIGHEST_LEVEL))
     made.clouds = [random_cloud(dice, top) for _ in range(dice.between(1, MOST_CLOUDS))]
-    highest = max(each.level for each in made.clouds)
-    above = HIGHEST if dice.one_in(5) else highest
+    above = HIGHEST_LEVEL if dice.one_in(5) else highest_level(made)
     made.blocks = [random_block(dice, above) for _ in range(dice.between(1, MOST_BLOCKS))]
     if dice.one_in(2):
         add_random_edges(dice, made)
@@ -236,11 +235,11 @@ def mask_cases(dice):
 KINDS = {*(f"bit {k} set" for k in range(8)), *(f"bit {k} unset" for k in range(8)),
          *(f"{count} clouds" for count in range(1, 9)),
          *(f"{count} blocks" for count in range(1, 17)),
-         "nowhere by its level", "nowhere by its pin", "all of eight", "bits 0 and 7 alone",
-         "even bits alone", "odd bits alone", "an undeclared cloud for level 0",
+         "nowhere by its label", "nowhere by its pin", "all of eight", "bits 0 and 7 alone",
+         "even bits alone", "odd bits alone", "an undeclared cloud for label 0",
          "a pinned datum", "a pinned service", "pinned to the lowest", "pinned to the highest",
-         "pinned between", "clearance above a cloud", "no candidates", "one candidate",
-         "16 blocks of 2 clouds", "65,536 candidates"}
+         "pinned between", "a cloud that does not cover the clearance", "no candidates",
+         "one candidate", "16 blocks of 2 clouds", "65,536 candidates"}
 
 
 def bytes_in(line):
@@ -267,7 +266,7 @@ def kinds_of_pin(described, b, byte):
     if b not in described.pins:
         return set()
     would_do = [k for k, each in enumerate(described.clouds)
-                if covers(each.level, level(described.blocks[b]))]
+                if covers(each.label, label_of(described.blocks[b]))]
     if byte == 0:
         return {"nowhere by its pin"} if would_do else set()
     kinds = {"a pinned datum" if isinstance(described.blocks[b], Datum) else "a pinned service"}
@@ -284,12 +283,12 @@ def kinds_of_block(described, b, byte):
     kinds = kinds_of_bits(len(clouds), byte) | kinds_of_pin(described, b, byte)
     free = b not in described.pins
     if free and byte == 0:
-        kinds.add("nowhere by its level")
-    if free and level(block) == 0 and len(clouds) < MOST_CLOUDS:
-        kinds.add("an undeclared cloud for level 0")
-    if not isinstance(block, Datum) and any(byte >> k & 1 and each.level < block.clearance
-                                            for k, each in enumerate(clouds)):
-        kinds.add("clearance above a cloud")
+        kinds.add("nowhere by its label")
+    if free and label_of(block) == 0 and len(clouds) < MOST_CLOUDS:
+        kinds.add("an undeclared cloud for label 0")
+    used = [each.label for k, each in enumerate(clouds) if byte >> k & 1]
+    if not isinstance(block, Datum) and not all(covers(label, block.clearance) for label in used):
+        kinds.add("a cloud that does not cover the clearance")
     return kinds
 
 

@@ -32,7 +32,10 @@ WIDTHS = {                      # of the operands of each command, in bytes
 }
 
 MOST_CLOUDS, MOST_BLOCKS, MOST_EDGES, MOST_PAIRS, MOST_CANDIDATES = 8, 16, 32, 8, 65536
-HIGHEST = 15                    # for levels, locations and clearances
+HIGHEST_LEVEL, HIGHEST_LABEL = 15, 63
+
+LABELS = {CLOUD: 1, DATUM: 1, SERVICE: 2}                  # how many operands, the first ones
+LEVEL_BITS, EMBARGO, SOURCE = 0x0F, 0x10, 0x20             # of a label: its level, and its marks
 
 
 class Refused(Exception):
@@ -45,7 +48,7 @@ class Refused(Exception):
 
 
 class Cloud(NamedTuple):
-    level: int
+    label: int
     storage_rate: int
     in_rate: int
     out_rate: int
@@ -53,13 +56,13 @@ class Cloud(NamedTuple):
 
 
 class Datum(NamedTuple):
-    level: int
+    label: int
     size: int
     longevity: int
 
 
 class Service(NamedTuple):
-    location: int
+    location: int               # a label, as is the clearance
     clearance: int
     cpu_units: int
 
@@ -123,12 +126,8 @@ def one_too_many(described, command):
     return False
 
 
-def too_high(command, operands):
-    if command in (CLOUD, DATUM):
-        return operands[0] > HIGHEST
-    if command == SERVICE:
-        return operands[0] > HIGHEST or operands[1] > HIGHEST
-    return False
+def no_label(command, operands):
+    return any(operand > HIGHEST_LABEL for operand in operands[:LABELS.get(command, 0)])
 
 
 def misnamed(described, command, operands):
@@ -160,7 +159,7 @@ def fault(described, command, operands):
     """The number of the first thing wrong with a complete command, or None."""
     if one_too_many(described, command):
         return 4
-    if too_high(command, operands):
+    if no_label(command, operands):
         return 5
     if misnamed(described, command, operands):
         return 6
@@ -178,9 +177,8 @@ def split(operands, widths):
     return numbers
 
 
-def decode(text):
-    """The description that the bytes spell; refuses with 1 to 8."""
-    described = Description()
+def commands_in(text):
+    """Each command with its place and its operands, up to the end; refuses with 1 to 3."""
     at = 0
     ended = False
     while not ended:
@@ -192,15 +190,21 @@ def decode(text):
         after = at + 1 + sum(WIDTHS[command])
         if after > len(text):
             raise Refused(1, at)
-        operands = split(text[at + 1:after], WIDTHS[command])
-        number = fault(described, command, operands)
-        if number is not None:
-            raise Refused(number, at)
-        described.add(command, operands)
+        yield at, command, split(text[at + 1:after], WIDTHS[command])
         ended = command == END
         at = after
     if at < len(text):
         raise Refused(3, at)
+
+
+def decode(text):
+    """The description that the bytes spell; refuses with 1 to 8."""
+    described = Description()
+    for at, command, operands in commands_in(text):
+        number = fault(described, command, operands)
+        if number is not None:
+            raise Refused(number, at)
+        described.add(command, operands)
     if not described.clouds or not described.blocks:
         raise Refused(8, len(text))
     return described
@@ -208,14 +212,31 @@ def decode(text):
 
 # ---- Its rules ------------------------------------------------------------------------
 
+def level(label):
+    return label & LEVEL_BITS
+
+
+def has_embargo(label):
+    return label & EMBARGO != 0
+
+
+def has_source(label):
+    return label & SOURCE != 0
+
+
 def covers(upper, lower):
-    """The one comparison of levels."""
-    return upper >= lower
+    """The one comparison of labels: as high a level at least, and every mark.
+
+    Of two labels it may be that neither covers the other.
+    """
+    return (level(upper) >= level(lower)
+            and (has_embargo(upper) or not has_embargo(lower))
+            and (has_source(upper) or not has_source(lower)))
 
 
-def level(block):
+def label_of(block):
     """What a cloud must cover to carry the block."""
-    return block.level if isinstance(block, Datum) else block.location
+    return block.label if isinstance(block, Datum) else block.location
 
 
 def keeps_rule_2(service):
@@ -224,18 +245,18 @@ def keeps_rule_2(service):
 
 def keeps_rule_3(described, edge):
     service, datum = described.blocks[edge.service], described.blocks[edge.datum]
-    return edge.command != READS or covers(service.clearance, datum.level)
+    return edge.command != READS or covers(service.clearance, datum.label)
 
 
 def keeps_rule_4(described, edge):
     service, datum = described.blocks[edge.service], described.blocks[edge.datum]
-    return edge.command != WRITES or covers(datum.level, service.location)
+    return edge.command != WRITES or covers(datum.label, service.location)
 
 
 def may_stand(described, block, cloud):
     """Rule 7 and the pin of one block; the cloud may be any number."""
     return (cloud < len(described.clouds)
-            and covers(described.clouds[cloud].level, level(described.blocks[block]))
+            and covers(described.clouds[cloud].label, label_of(described.blocks[block]))
             and described.pins.get(block, cloud) == cloud)
 
 
@@ -273,8 +294,8 @@ def is_permitted(described, b, k):
     """
     if b >= len(described.blocks) or k >= len(described.clouds):
         return False
-    high_enough = covers(described.clouds[k].level, level(described.blocks[b]))
-    return high_enough and (b not in described.pins or described.pins[b] == k)
+    good_enough = covers(described.clouds[k].label, label_of(described.blocks[b]))
+    return good_enough and (b not in described.pins or described.pins[b] == k)
 
 
 def masks_of(described):
@@ -310,17 +331,17 @@ def ends(edge, placement):
 
 
 def first_broken(described, placement, command):
-    """The first edge of this command whose copy would lie too low, or None.
+    """The first edge of this command whose copy would lie where its datum may not, or None.
 
     With READS this is rule 16, with WRITES rule 17: either way the copy
-    lies with the service, and the datum's level is what counts.
+    lies with the service, and the datum's label is what counts.
     """
     for e, edge in enumerate(described.edges):
         if edge.command == command:
             source, destination = ends(edge, placement)
-            copy_level = described.clouds[placement[edge.service]].level
-            datum_level = described.blocks[edge.datum].level
-            if source != destination and not covers(copy_level, datum_level):
+            held_by = described.clouds[placement[edge.service]].label
+            needed = described.blocks[edge.datum].label
+            if source != destination and not covers(held_by, needed):
                 return e
     return None
 

@@ -11,7 +11,7 @@ work=target/surroundings
 seconds=20
 count=0
 
-for program in listoptions callcases; do
+for program in listoptions labeltable callcases; do
     test -x "$bin/$program" || { echo "surroundings: there is no $bin/$program; rt check $program" >&2; exit 1; }
 done
 mkdir -p "$work"
@@ -113,6 +113,17 @@ run callcases <examples/interview.cases >/dev/full
 settle 'callcases to a full device' '' 'callcases: standard output: '
 run callcases <&- >&-
 settle 'callcases with all closed' '' 'callcases: standard '
+
+run labeltable </dev/null >&-
+settle 'labeltable to closed output' '' 'labeltable: standard output: '
+run labeltable </dev/null >/dev/full
+settle 'labeltable to a full device' '' 'labeltable: standard output: '
+
+# It looks at no input.
+table=$(cat crates/labeltable/stdout)
+run labeltable <&- >"$work/out"
+settle 'labeltable on closed input' "$table
+" ''
 
 # The first bytes settle the answer: of the random ones, the first is no command and no letter.
 run listoptions <"$work/noise" >"$work/out"

@@ -107,11 +107,11 @@ impl Description {
         &self.blocks[usize::from(edge.datum)]
     }
 
-    /// The edge leaves a copy on a cloud below the datum's level: rule 16 for a read, 17 for a
-    /// write.
+    /// The edge leaves a copy on a cloud that does not cover the datum's label: rule 16 for a read,
+    /// 17 for a write.
     fn exposes(&self, edge: &Edge, placement: &Clouds) -> bool {
         let [service, datum] = edge.ends(placement);
-        service != datum && self.cloud(service).level < self.datum(edge).level
+        service != datum && !self.cloud(service).label.covers(self.datum(edge).label)
     }
 
     /// The first edge that breaks rule 16, where the way is reads, or 17.
@@ -129,7 +129,7 @@ impl Description {
                 continue;
             }
             let (service, home, datum) = (self.cloud(service), self.cloud(home), self.datum(edge));
-            if service.level < datum.level {
+            if !service.label.covers(datum.label) {
                 return None;
             }
             let [outward, inward] = match edge.way {

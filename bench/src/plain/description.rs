@@ -4,9 +4,32 @@ use std::ops::Deref;
 
 use panel::Refusal;
 
+/// The highest byte that is a label, and the bits of its level and of its two marks.
+const HIGHEST: u8 = 63;
+const LEVEL: u8 = 0x0F;
+const MARKS: u8 = 0x30;
+
+/// A level and two marks.
+#[derive(Clone, Copy)]
+pub struct Label(u8);
+
+impl Label {
+    /// Refuses with 5 what is no label.
+    fn of(byte: u8) -> Result<Self, u8> {
+        refuse_if(byte > HIGHEST, 5)?;
+        Ok(Label(byte))
+    }
+
+    /// Its level is as high at least, and it has every mark of the other.
+    pub fn covers(self, other: Label) -> bool {
+        let missing = other.0 & !self.0 & MARKS;
+        self.0 & LEVEL >= other.0 & LEVEL && missing == 0
+    }
+}
+
 #[derive(Clone, Copy)]
 pub struct Cloud {
-    pub level: u8,
+    pub label: Label,
     pub storage: u16,
     pub inward: u16,
     pub outward: u16,
@@ -16,13 +39,13 @@ pub struct Cloud {
 #[derive(Clone, Copy)]
 pub enum Kind {
     Datum { gigabytes: u16, longevity: u16 },
-    Service { clearance: u8, units: u32 },
+    Service { clearance: Label, units: u32 },
 }
 
 #[derive(Clone, Copy)]
 pub struct Block {
-    /// The level of a datum, the location of a service.
-    pub level: u8,
+    /// The label of a datum, the location of a service.
+    pub label: Label,
     pub kind: Kind,
     pub pin: Option<u8>,
 }
@@ -114,14 +137,14 @@ impl Description {
         };
         Description {
             clouds: Few::none(Cloud {
-                level: 0,
+                label: Label(0),
                 storage: 0,
                 inward: 0,
                 outward: 0,
                 cpu: 0,
             }),
             blocks: Few::none(Block {
-                level: 0,
+                label: Label(0),
                 kind,
                 pin: None,
             }),
@@ -150,14 +173,14 @@ impl Description {
     /// Adds the command that the text begins with, which is not 00; answers its width.
     fn add(&mut self, text: &[u8]) -> Result<usize, u8> {
         match *text {
-            [1, level, s, t, i, j, o, p, c, d, ..] => {
+            [1, label, s, t, i, j, o, p, c, d, ..] => {
                 let rates = [[s, t], [i, j], [o, p], [c, d]];
-                self.add_cloud(level, rates.map(u16::from_be_bytes))?;
+                self.add_cloud(label, rates.map(u16::from_be_bytes))?;
                 Ok(10)
             }
-            [2, level, s, t, l, m, ..] => {
+            [2, label, s, t, l, m, ..] => {
                 let [size, longevity] = [[s, t], [l, m]].map(u16::from_be_bytes);
-                self.add_datum(level, size, longevity)?;
+                self.add_datum(label, size, longevity)?;
                 Ok(6)
             }
             [3, location, clearance, a, b, c, d, ..] => {
@@ -174,12 +197,12 @@ impl Description {
         }
     }
 
-    fn add_cloud(&mut self, level: u8, rates: [u16; 4]) -> Result<(), u8> {
+    fn add_cloud(&mut self, label: u8, rates: [u16; 4]) -> Result<(), u8> {
         self.clouds.refuse_if_full()?;
-        refuse_if(level > 15, 5)?;
+        let label = Label::of(label)?;
         let [storage, inward, outward, cpu] = rates;
         self.clouds.push(Cloud {
-            level,
+            label,
             storage,
             inward,
             outward,
@@ -188,11 +211,10 @@ impl Description {
         Ok(())
     }
 
-    fn add_datum(&mut self, level: u8, size: u16, longevity: u16) -> Result<(), u8> {
+    fn add_datum(&mut self, label: u8, size: u16, longevity: u16) -> Result<(), u8> {
         self.blocks.refuse_if_full()?;
-        refuse_if(level > 15, 5)?;
         self.blocks.push(Block {
-            level,
+            label: Label::of(label)?,
             kind: Kind::Datum {
                 gigabytes: charged(size),
                 longevity,
@@ -204,9 +226,9 @@ impl Description {
 
     fn add_service(&mut self, location: u8, clearance: u8, units: u32) -> Result<(), u8> {
         self.blocks.refuse_if_full()?;
-        refuse_if(location > 15 || clearance > 15, 5)?;
+        let clearance = Label::of(clearance)?;
         self.blocks.push(Block {
-            level: location,
+            label: Label::of(location)?,
             kind: Kind::Service { clearance, units },
             pin: None,
         });
@@ -268,19 +290,21 @@ impl Description {
     fn breaks_rule_3(&self, edge: &Edge) -> bool {
         let service = &self.blocks[usize::from(edge.service)];
         let datum = &self.blocks[usize::from(edge.datum)];
-        let too_low =
-            matches!(service.kind, Kind::Service { clearance, .. } if clearance < datum.level);
-        edge.way == Way::Reads && too_low
+        let not_cleared = matches!(
+            service.kind,
+            Kind::Service { clearance, .. } if !clearance.covers(datum.label)
+        );
+        edge.way == Way::Reads && not_cleared
     }
 
     fn breaks_rule_4(&self, edge: &Edge) -> bool {
         let [service, datum] = [edge.service, edge.datum].map(usize::from);
-        edge.way == Way::Writes && self.blocks[service].level > self.blocks[datum].level
+        edge.way == Way::Writes && !self.blocks[datum].label.covers(self.blocks[service].label)
     }
 
     /// Rule 7 and the pin.
     pub fn may_stand(&self, block: &Block, cloud: u8) -> bool {
-        self.clouds[usize::from(cloud)].level >= block.level
+        self.clouds[usize::from(cloud)].label.covers(block.label)
             && block.pin.is_none_or(|pin| pin == cloud)
     }
 
@@ -305,7 +329,7 @@ impl Description {
 }
 
 fn breaks_rule_2(block: &Block) -> bool {
-    matches!(block.kind, Kind::Service { clearance, .. } if clearance < block.level)
+    matches!(block.kind, Kind::Service { clearance, .. } if !clearance.covers(block.label))
 }
 
 /// Refuses with the number, if there is a place.

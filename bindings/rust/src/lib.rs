@@ -2,11 +2,12 @@
 //!
 //! A *description* is a string of bytes that declares clouds, data, services, which service reads
 //! and writes which datum, and which data must never meet on one cloud (docs/FORMAT.md has all of
-//! it). A *placement* puts each block, that is each datum and service, on a cloud. The engine tells
-//! which clouds a block may use, its *mask*; which placements are secure, what each costs, and lists
-//! the options that an editor has, cheapest first, one *row* for each, with what of its cost is for
-//! storage, for transfers and for cpu. A secure placement also has a *picture*, a text that Graphviz
-//! draws.
+//! it). Clouds, data and services have labels, a level and two marks each, and the rules say which
+//! [`Label`] has to cover which. A *placement* puts each block, that is each datum and service, on a
+//! cloud. The engine tells which clouds a block may use, its *mask*; which placements are secure,
+//! what each costs, and lists the options that an editor has, cheapest first, one *row* for each,
+//! with what of its cost is for storage, for transfers and for cpu. A secure placement also has a
+//! *picture*, a text that Graphviz draws.
 //!
 //! ```
 //! use panel::{Description, Placement};
@@ -29,7 +30,8 @@
 //!     ]
 //! );
 //!
-//! // With its transcode on cloud 0, the interview would be copied to a store below its level.
+//! // With its transcode on cloud 0, the interview would be copied to a store that does not cover
+//! // its label.
 //! let refusal = interview.judge(&Placement::from([1, 0, 0, 0, 0])).unwrap_err();
 //! assert_eq!((refusal.number, refusal.place), (14, 0));
 //! # Ok(())
@@ -53,9 +55,11 @@
 pub mod calls;
 mod description;
 mod ffi;
+mod label;
 mod refusal;
 mod values;
 
 pub use description::{Description, Rows};
+pub use label::{Label, NoLabel};
 pub use refusal::Refusal;
 pub use values::{Census, Cursor, Placement, Row, Transfer};

@@ -10,12 +10,11 @@ use std::fmt;
 /// ```
 /// use panel::Description;
 ///
-/// let refusal = Description::read(&[1, 16, 0, 0, 0, 0, 0, 0, 0, 0]).unwrap_err();
+/// let refusal = Description::read(&[1, 64, 0, 0, 0, 0, 0, 0, 0, 0]).unwrap_err();
 /// assert_eq!((refusal.number, refusal.place), (5, 0));
 /// assert_eq!(
 ///     refusal.to_string(),
-///     "refused 5 0: the command at byte 0 has a level, location or clearance over 15; \
-///      the highest is 15"
+///     "refused 5 0: the command at byte 0 has a label above 63; the highest is 63"
 /// );
 /// ```
 #[derive(Debug, Clone, Copy, PartialEq, Eq, Hash)]
@@ -58,17 +57,18 @@ fn words_on_workflow(number: u8) -> [&'static str; 2] {
     match number {
         9 => [
             "service ",
-            " has a location above its clearance (rule 2); lower the one or raise the other",
+            " has a clearance that does not cover its location (rule 2); raise the clearance's \
+             level or add the mark that it lacks",
         ],
         10 => [
             "edge ",
-            " lets a service read a datum above its clearance (rule 3); raise the clearance or \
-             remove the edge",
+            " lets a service read a datum whose label its clearance does not cover (rule 3); raise \
+             the clearance's level, add the mark that it lacks or remove the edge",
         ],
         11 => [
             "edge ",
-            " lets a service write a datum below its location (rule 4); raise the datum's level \
-             or remove the edge",
+            " lets a service write a datum whose label does not cover its location (rule 4); raise \
+             the datum's level, add the mark that it lacks or remove the edge",
         ],
         _ => [
             "there are more than 65,536 candidates",
@@ -83,18 +83,18 @@ fn words_on_placement(number: u8) -> [&'static str; 2] {
         13 => [
             "position ",
             " of the placement names no cloud that its block may stand on; choose one that is \
-             declared, of sufficient level (rule 7) and the block's pin if it has one, and 0 \
+             declared, that covers the block's label (rule 7) and is its pin if it has one, and 0 \
              where there is no block",
         ],
         14 => [
             "edge ",
-            " would copy a datum to a reader on a cloud below the datum's level (rule 16); place \
-             the reader higher, or both on one cloud",
+            " would copy a datum to a reader on a cloud that does not cover the datum's label \
+             (rule 16); place the reader on one that does, or both on one cloud",
         ],
         15 => [
             "edge ",
-            " would keep a copy of a datum with its writer on a cloud below the datum's level \
-             (rule 17); place the writer higher, or both on one cloud",
+            " would keep a copy of a datum with its writer on a cloud that does not cover the \
+             datum's label (rule 17); place the writer on one that does, or both on one cloud",
         ],
         17 => [
             "pair ",
@@ -130,7 +130,7 @@ fn words_on_bytes(number: u8) -> [&'static str; 2] {
         ],
         5 => [
             "the command at byte ",
-            " has a level, location or clearance over 15; the highest is 15",
+            " has a label above 63; the highest is 63",
         ],
         6 => [
             "the command at byte ",
@@ -181,6 +181,11 @@ mod tests {
         assert_eq!(
             sentence(2, 20),
             "refused 2 20: byte 20 begins no known command; commands begin with 00 to 07"
+        );
+        assert_eq!(
+            sentence(9, 2),
+            "refused 9 2: service 2 has a clearance that does not cover its location (rule 2); \
+             raise the clearance's level or add the mark that it lacks"
         );
         assert_eq!(
             sentence(12, 0),

@@ -216,7 +216,7 @@ impl From<[u8; 4]> for Transfer {
 /// How many placements there are of each kind. `candidates` is the sum of the next four.
 #[derive(Debug, Clone, Copy, PartialEq, Eq, Hash)]
 pub struct Census {
-    /// Placements with each block on a cloud of sufficient level, and on its pin if it has one.
+    /// Placements with each block on a cloud that covers its label, and on its pin if it has one.
     pub candidates: u64,
     /// Candidates that break rule 16, whether or not they break rule 17.
     pub breaking16: u64,

@@ -1,6 +1,6 @@
 //! The stored examples and the examples of docs/FORMAT.md, through the public types.
 
-use panel::{Census, Cursor, Description, Placement, Refusal, Transfer, calls};
+use panel::{Census, Cursor, Description, Label, Placement, Refusal, Transfer, calls};
 
 const INTERVIEW: &[u8] = include_bytes!("../../../examples/interview.bin");
 const SECOND: &[u8] = include_bytes!("../../../examples/second.bin");
@@ -145,18 +145,18 @@ fn the_examples_have_their_masks() {
     assert_eq!(masks(APART), masks(INTERVIEW));
 }
 
-fn datum(level: u8) -> Vec<u8> {
-    vec![2, level, 0, 0, 0, 0]
+fn datum(label: u8) -> Vec<u8> {
+    vec![2, label, 0, 0, 0, 0]
 }
 
 fn service(location: u8, clearance: u8) -> Vec<u8> {
     vec![3, location, clearance, 0, 0, 0, 0]
 }
 
-/// Clouds of these levels, and then these commands.
-fn on_levels(levels: &[u8], commands: &[Vec<u8>]) -> Vec<u8> {
-    let cloud = |&level| [1, level, 0, 0, 0, 0, 0, 0, 0, 0];
-    let clouds: Vec<_> = levels.iter().map(cloud).collect();
+/// Clouds of these labels, and then these commands.
+fn on_clouds(labels: &[u8], commands: &[Vec<u8>]) -> Vec<u8> {
+    let cloud = |&label| [1, label, 0, 0, 0, 0, 0, 0, 0, 0];
+    let clouds: Vec<_> = labels.iter().map(cloud).collect();
     [clouds.as_flattened(), &commands.concat(), &[0]].concat()
 }
 
@@ -166,18 +166,38 @@ const MIXED: [u8; 8] = [2, 1, 0, 1, 0, 1, 0, 2];
 #[test]
 fn a_mask_has_the_clouds_that_are_high_enough() {
     let data: Vec<_> = (0..4).map(datum).collect();
-    assert_eq!(masks(&on_levels(&MIXED, &data)), [0xff, 0xab, 0x81, 0]);
+    assert_eq!(masks(&on_clouds(&MIXED, &data)), [0xff, 0xab, 0x81, 0]);
     // A service's location counts, and not its clearance.
     let services: Vec<_> = (0..4).map(|location| service(location, 15)).collect();
-    assert_eq!(masks(&on_levels(&MIXED, &services)), [0xff, 0xab, 0x81, 0]);
+    assert_eq!(masks(&on_clouds(&MIXED, &services)), [0xff, 0xab, 0x81, 0]);
     // Clouds that are not declared are nowhere to stand, although level 0 would do.
-    assert_eq!(masks(&on_levels(&MIXED[..3], &data)), [7, 3, 1, 0]);
+    assert_eq!(masks(&on_clouds(&MIXED[..3], &data)), [7, 3, 1, 0]);
     assert_eq!(masks(&data_alone(2, 16)), [3; 16]);
+}
+
+/// The four combinations of marks, without a level.
+const MARKS: [u8; 4] = [
+    0,
+    Label::EMBARGO,
+    Label::SOURCE,
+    Label::EMBARGO | Label::SOURCE,
+];
+
+#[test]
+fn a_mask_has_the_clouds_that_cover_the_label() {
+    let data: Vec<_> = MARKS.into_iter().map(datum).collect();
+    assert_eq!(masks(&on_clouds(&MARKS, &data)), [0xf, 0xa, 0xc, 0x8]);
+    let services: Vec<_> = MARKS.into_iter().map(|mark| service(mark, 63)).collect();
+    assert_eq!(masks(&on_clouds(&MARKS, &services)), [0xf, 0xa, 0xc, 0x8]);
+    // A higher level is no mark, and a mark is no level.
+    let both = Label::EMBARGO | 1;
+    let clouds = [15, Label::EMBARGO, both, 15 | Label::SOURCE];
+    assert_eq!(masks(&on_clouds(&clouds, &[datum(both)])), [0b100]);
 }
 
 #[test]
 fn a_pin_leaves_one_cloud_or_none() {
-    let pinned = |block: Vec<u8>, cloud| masks(&on_levels(&MIXED, &[block, vec![6, 0, cloud]]));
+    let pinned = |block: Vec<u8>, cloud| masks(&on_clouds(&MIXED, &[block, vec![6, 0, cloud]]));
     assert_eq!(pinned(datum(0), 0), [0x01]);
     assert_eq!(pinned(datum(0), 2), [0x04]);
     assert_eq!(pinned(datum(1), 3), [0x08]);
@@ -189,13 +209,13 @@ fn a_pin_leaves_one_cloud_or_none() {
 
 #[test]
 fn masks_are_refused_as_read_is() {
-    let one_cloud = |commands: &[Vec<u8>]| on_levels(&[0], commands);
+    let one_cloud = |commands: &[Vec<u8>]| on_clouds(&[0], commands);
     let refused = [
         vec![],
         vec![255],
         [INTERVIEW, &[0]].concat(),
         data_alone(9, 1),
-        on_levels(&[16], &[]),
+        on_clouds(&[64], &[]),
         interview_with(&[4, 0, 0]),
         interview_with(&[4, 1, 0]),
         vec![0],
@@ -213,15 +233,39 @@ fn masks_are_refused_as_read_is() {
     }
 }
 
+/// A service reads or writes a marked datum; cloud 0 has the mark, and cloud 1 the highest level.
+fn moved(way: u8) -> Vec<u8> {
+    let commands = [datum(Label::SOURCE), service(0, 63), vec![way, 1, 0]];
+    on_clouds(&[Label::SOURCE, 15], &commands)
+}
+
+#[test]
+fn a_level_does_not_make_up_for_a_mark() {
+    let refused = |commands: &[Vec<u8>]| refusal(&on_clouds(&[63], commands));
+    assert_eq!(refused(&[service(Label::EMBARGO, 15)]), (9, 0));
+    let reads = [service(0, 15), datum(Label::EMBARGO), vec![4, 0, 1]];
+    assert_eq!(refused(&reads), (10, 0));
+    let writes = [service(Label::SOURCE, 63), datum(15), vec![5, 0, 1]];
+    assert_eq!(refused(&writes), (11, 0));
+    let judged = |bytes: &[u8], clouds: [u8; 2]| {
+        let refused = accepted(bytes).judge(&clouds.into()).err();
+        refused.map(|refusal| (refusal.number, refusal.place))
+    };
+    assert_eq!(judged(&moved(4), [1, 0]), Some((13, 0)));
+    assert_eq!(judged(&moved(4), [0, 1]), Some((14, 0)));
+    assert_eq!(judged(&moved(5), [0, 1]), Some((15, 0)));
+    assert_eq!(judged(&moved(5), [0, 0]), None);
+}
+
 /// A datum, a pinned service and a datum with few clouds.
-fn on_mixed_levels() -> Vec<u8> {
+fn on_mixed_clouds() -> Vec<u8> {
     let pin = vec![6, 1, 5];
-    on_levels(&MIXED, &[datum(0), service(1, 2), datum(2), pin])
+    on_clouds(&MIXED, &[datum(0), service(1, 2), datum(2), pin])
 }
 
 #[test]
 fn the_candidates_are_a_product_of_masks() {
-    for bytes in [INTERVIEW, SECOND, APART, &on_mixed_levels()] {
+    for bytes in [INTERVIEW, SECOND, APART, &on_mixed_clouds()] {
         let masks = masks(bytes);
         let choices = masks.iter().map(|mask| u64::from(mask.count_ones()));
         let candidates = accepted(bytes).census().candidates;
@@ -231,7 +275,7 @@ fn the_candidates_are_a_product_of_masks() {
 
 #[test]
 fn a_block_of_a_candidate_moves_on_the_clouds_of_its_mask() {
-    for bytes in [INTERVIEW, SECOND, APART, &on_mixed_levels()] {
+    for bytes in [INTERVIEW, SECOND, APART, &on_mixed_clouds()] {
         let description = accepted(bytes);
         let masks = description.masks();
         let candidate = Placement(masks.map(|mask| (mask.trailing_zeros() % 8) as u8));

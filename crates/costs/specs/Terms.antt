@@ -10,7 +10,8 @@ use Rattle.description.specs.declared.workflow.Cloud.{Cloud}
 use Rattle.description.specs.declared.workflow.Edge.{Edge}
 use Rattle.description.specs.declared.workflow.Way.{Way}
 use Rattle.description.specs.Format.{Description, cloud, block, isWrite}
-use Rattle.security.specs.Soundness.{covers, cloudLevel, blockLevel}
+use Rattle.labels.specs.Labels.{covers}
+use Rattle.security.specs.Soundness.{cloudLabel, blockLabel}
 use Rattle.weights.specs.Weights.{firstPenalty, secondPenalty}
 use Rattle.security.specs.Placements.{serviceCloud, datumCloud, broken16, broken17}
 use Rattle.costs.specs.Cost.{chargedOf, storageOf, cpuOf, copyOf}
@@ -27,9 +28,9 @@ edgeCharge d e x y =
     (cond (isWrite (e .way)) (cloud d x .outward + cloud d y .inward) (cloud d y .outward + cloud d x .inward) * chargedOf (block d (e .datum) .kind) +
     copyOf (cloud d x) (block d (e .datum) .kind))
 
--- its copy there lies on a cloud below the datum's level
+-- its copy there lies on a cloud whose label does not cover the datum's
 abbrev pub edgeExposes : Description → Edge → (x y : ℕ) → Bool
-edgeExposes d e x y = not (eqb x y) && not (covers (cloudLevel d x) (blockLevel d (e .datum)))
+edgeExposes d e x y = not (eqb x y) && not (covers (cloudLabel d x) (blockLabel d (e .datum)))
 
 -- what an edge adds where it exposes its copy: rule 16, of a read, is looked for before rule 17, of a write
 abbrev pub penalty : Way → ℕ
@@ -42,7 +43,7 @@ edgeTerm d e x y = edgeCharge d e x y + cond (edgeExposes d e x y) (penalty (e .
 -- what each end of an edge adds by its own cloud, where the two stand apart: the service's with the copy and the penalty, and the datum's
 unfoldable pub serviceSide : Way → Cloud → Block → ℕ
 serviceSide way c datum =
-    (cond (isWrite way) (c .outward) (c .inward) + c .storage) * chargedOf (datum .kind) + cond (covers (c .level) (datum .level)) 0 (penalty way)
+    (cond (isWrite way) (c .outward) (c .inward) + c .storage) * chargedOf (datum .kind) + cond (covers (c .label) (datum .label)) 0 (penalty way)
 
 unfoldable pub datumSide : Way → Cloud → Block → ℕ
 datumSide way c datum = cond (not (isWrite way)) (c .outward) (c .inward) * chargedOf (datum .kind)

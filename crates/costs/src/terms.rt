@@ -6,7 +6,7 @@ ghost use Rattle.weights.specs.Weights.{secondPenalty, termLimit};
 ghost use Rattle.description.specs.Format.{isWrite};
 ghost use Rattle.description.specs.Meaning.{describes};
 ghost use Rattle.costs.specs.Terms.{blockTerm, penalty, serviceSide, datumSide};
-ghost use Rattle.security.specs.Soundness.{covers};
+ghost use Rattle.labels.specs.Labels.{covers};
 use crate::cost::charged_of;
 use crate::cost::cpu_of;
 use crate::cost::storage_of;
@@ -17,7 +17,7 @@ use description::workflow::Cloud;
 use description::workflow::Way;
 use description::workflow::block_at;
 use description::workflow::cloud_at;
-use security::soundness::covers;
+use labels::covers;
 use weights::FIRST_PENALTY;
 use weights::SECOND_PENALTY;
 
@@ -34,10 +34,10 @@ pub fn block_term(w: &Words, b: usize, k: usize) -> u64
 
 // What an exposed copy adds to the service's end of its edge.
 fn exposed(way: Way, cloud: Cloud, datum: Block) -> u64
-    ensures { λ r. ⌜ r ≡ cond (covers (cloud .level) (datum .level)) 0 (penalty way) ⌝ }
+    ensures { λ r. ⌜ r ≡ cond (covers (cloud .label) (datum .label)) 0 (penalty way) ⌝ }
     ensures { λ r. ⌜ r ≤ secondPenalty ⌝ }
 {
-    if covers(cloud.level, datum.level) {
+    if covers(cloud.label, datum.label) {
         return 0;
     }
     if is_write(way) {

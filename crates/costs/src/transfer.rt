@@ -10,6 +10,7 @@ ghost use Rattle.sequences.specs.Results.{ok, andThen};
 ghost use Rattle.description.specs.Meaning.{describes};
 ghost use Rattle.costs.specs.Answers.{transfersAnswer};
 ghost use Rattle.costs.specs.Transfers.{fitted, bufferAfter};
+ghost use Rattle.security.specs.Masks.{masksOf};
 ghost use Rattle.security.specs.Placements.{judge};
 ghost use Rattle.costs.specs.Transfers.{source, destination, transfers, transfersFrom, bytesOf};
 use crate::answers::Transferred;
@@ -20,6 +21,7 @@ use description::workflow::Refusal;
 use description::workflow::edge_at;
 use description::workflow::edge_count;
 use security::answers::Verdict;
+use security::masks::Masks;
 use security::placements::cloud_of;
 use security::placements::moves;
 use security::placements::verdict;
@@ -127,11 +129,17 @@ fn written(w: &Words, placement: [u8; 16], buffer: &mut [u8]) -> Transferred
     Transferred::Count(put_transfers(w, placement, buffer))
 }
 
-pub fn written_if_secure(w: &Words, placement: [u8; 16], buffer: &mut [u8]) -> Transferred
+pub fn written_if_secure(
+    w: &Words,
+    masks: &Masks,
+    placement: [u8; 16],
+    buffer: &mut [u8],
+) -> Transferred
+    requires { ⌜ now masks ≡ masksOf (describes (now w)) ⌝ }
     ensures { λ r. ⌜ transfersAnswer r ≡ andThen (andThen (judge (describes (now (w .entry))) placement) (λ secure. fitted (length (now (buffer .entry))) (transfers (describes (now (w .entry))) placement))) (λ ts. ok (length ts)) ⌝ }
     ensures { λ r. ⌜ now (buffer .exit) ≡ bufferAfter (andThen (judge (describes (now (w .entry))) placement) (λ secure. fitted (length (now (buffer .entry))) (transfers (describes (now (w .entry))) placement))) (now (buffer .entry)) ⌝ }
 {
-    let v = verdict(w, placement);
+    let v = verdict(w, masks, placement);
     match v {
         Verdict::Secure => written(w, placement, buffer),
         Verdict::Refused(r) => Transferred::Refused(r),

@@ -8,6 +8,7 @@ use mathlib.Core.Option.{none}
 use lib.ListN.{length}
 use lib.Dec.{ltb, eqb}
 use borrow.Author.Tests.{ltb-true, ltb-false, leb-false, not-false}
+use Rattle.labels.specs.Labels.{noLabel}
 use Rattle.sequences.specs.Lists.{any}
 use Rattle.sequences.proofs.Positions.{everywhere-snoc, everywhere-set}
 use Rattle.sequences.proofs.Tests.{cond-none, both-pass, or-fails}
@@ -19,41 +20,41 @@ use Rattle.description.specs.declared.workflow.Way.{Way}
 use Rattle.description.specs.declared.workflow.Way.the-variants.{Reads, Writes}
 use Rattle.description.specs.Format.{Description, noCloud, noBlock, cloud as Format·cloud, block as Format·block, pinned, withCloud}
 use Rattle.description.specs.Format.{withBlock, withEdge, withPin, withPair, namesService, namesDatum, namesBlock, namesCloud}
-use Rattle.description.specs.Format.{isPinned, clash, samePair, u8At, u16At, u32At, tooHigh, edgeIn, pairIn, Command, cloudAt}
+use Rattle.description.specs.Format.{isPinned, clash, samePair, u8At, u16At, u32At, edgeIn, pairIn, Command, cloudAt}
 use Rattle.description.specs.Format.{datumAt, serviceAt, edgeAt, pinAt, pairAt, commandAt, firstFault, faultOf}
 use Rattle.description.proofs.Turns.{each-command}
 
 -- the cloud and the blocks that a command declares
 abbrev pub cloudIn : List ℕ → Cloud
-cloudIn s = record { level = u8At s 1; storage = u16At s 2; inward = u16At s 4; outward = u16At s 6; cpu = u16At s 8 }
+cloudIn s = record { label = u8At s 1; storage = u16At s 2; inward = u16At s 4; outward = u16At s 6; cpu = u16At s 8 }
 
 abbrev pub datumIn : List ℕ → Block
-datumIn s = record { level = u8At s 1; kind = Datum (u16At s 2) (u16At s 4); pin = Free }
+datumIn s = record { label = u8At s 1; kind = Datum (u16At s 2) (u16At s 4); pin = Free }
 
 abbrev pub serviceIn : List ℕ → Block
-serviceIn s = record { level = u8At s 1; kind = Service (u8At s 2) (u32At s 3); pin = Free }
+serviceIn s = record { label = u8At s 1; kind = Service (u8At s 2) (u32At s 3); pin = Free }
 
 -- ---- what is known of a command that is taken
 
 module _ (s : List ℕ) (d : Description) where
-  -- 01: there is room for the cloud, and its level is in range
+  -- 01: there is room for the cloud, and its label is one
   pub record CloudTaken : Type 0 where
     pub whole : 10 ≤ length s
     pub room : length (d .clouds) < 8
-    pub low : u8At s 1 ≤ 15
+    pub low : u8At s 1 ≤ 63
 
   -- 02
   pub record DatumTaken : Type 0 where
     pub whole : 6 ≤ length s
     pub room : length (d .blocks) < 16
-    pub low : u8At s 1 ≤ 15
+    pub low : u8At s 1 ≤ 63
 
   -- 03
   pub record ServiceTaken : Type 0 where
     pub whole : 7 ≤ length s
     pub room : length (d .blocks) < 16
-    pub low : u8At s 1 ≤ 15
-    pub lowClearance : u8At s 2 ≤ 15
+    pub low : u8At s 1 ≤ 63
+    pub lowClearance : u8At s 2 ≤ 63
 
   -- 04 and 05: there is room for the edge, its names are declared, and it clashes with none
   pub record EdgeTaken (w : Way) : Type 0 where
@@ -107,7 +108,7 @@ module _ (s : List ℕ) (d : Description) where
   pub service-taken : faultOf s (serviceAt s d) ≡ none → ServiceTaken s d
   service-taken e =
       let f = unrefused s (serviceAt s d) e in
-      let low = or-fails (tooHigh (u8At s 1)) (tooHigh (u8At s 2)) (f .1 .1 .0) in
+      let low = or-fails (noLabel (u8At s 1)) (noLabel (u8At s 2)) (f .1 .1 .0) in
       omega (arith, ltb-false, leb-false)
 
   pub edge-taken : (w : Way) → faultOf s (edgeAt w s d) ≡ none → EdgeTaken s d w

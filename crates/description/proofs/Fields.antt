@@ -16,8 +16,8 @@ use Rattle.description.specs.declared.workflow.Edge.{Edge}
 use Rattle.description.specs.declared.workflow.Pair.{Pair}
 use Rattle.description.specs.Layout.{toCloud, toBlock, toPin, toWay, toEdge, toPair}
 
-pub cloud-back : (c : Cloud) → c .level < 256 → c .storage < 65536 → c .inward < 65536 → c .outward < 65536 → c .cpu < 65536
-    → toCloud (record { a = c .level; b = c .storage; c = c .inward; d = c .outward; e = c .cpu }) ≡ c
+pub cloud-back : (c : Cloud) → c .label < 256 → c .storage < 65536 → c .inward < 65536 → c .outward < 65536 → c .cpu < 65536
+    → toCloud (record { a = c .label; b = c .storage; c = c .inward; d = c .outward; e = c .cpu }) ≡ c
 cloud-back c l s i o p = rw (mod-eq-of-lt l, mod-eq-of-lt s, mod-eq-of-lt i, mod-eq-of-lt o, mod-eq-of-lt p) refl
 
 pub pin-back : {k : ℕ} → k < 256 → toPin (k + 1) ≡ To k
@@ -27,16 +27,16 @@ pin-back {k} h =
     rw (some, less, mod-eq-of-lt h) refl
 
 block-same : {l m : ℕ} {k j : Kind} {p q : Pin} → l ≡ m → k ≡ j → p ≡ q
-    → _≡_ {A = Block} (record { level = l; kind = k; pin = p }) (record { level = m; kind = j; pin = q })
+    → _≡_ {A = Block} (record { label = l; kind = k; pin = p }) (record { label = m; kind = j; pin = q })
 block-same e f g = cc
 
-module _ (b : Block) (pin : ℕ) (l : b .level < 256) (p : toPin pin ≡ b .pin) where
+module _ (b : Block) (pin : ℕ) (l : b .label < 256) (p : toPin pin ≡ b .pin) where
   pub datum-back : {size longevity : ℕ} → size < 65536 → longevity < 65536 → b .kind ≡ Datum size longevity
-      → toBlock (record { a = b .level; b = 0; c = size; d = longevity; e = pin }) ≡ b
+      → toBlock (record { a = b .label; b = 0; c = size; d = longevity; e = pin }) ≡ b
   datum-back s t k = block-same (mod-eq-of-lt l) (rw (mod-eq-of-lt s, mod-eq-of-lt t) (sym k)) p
 
   pub service-back : {clearance units : ℕ} → clearance < 256 → b .kind ≡ Service clearance units
-      → toBlock (record { a = b .level; b = 1; c = clearance; d = units; e = pin }) ≡ b
+      → toBlock (record { a = b .label; b = 1; c = clearance; d = units; e = pin }) ≡ b
   service-back s k = block-same (mod-eq-of-lt l) (rw (mod-eq-of-lt s) (sym k)) p
 
 pub edge-back : (e : Edge) (way : ℕ) → toWay way ≡ e .way → e .service < 256 → e .datum < 256

@@ -40,13 +40,13 @@ limits = record {
   pair = λ s d b l t. record { clouds = l .clouds; blocks = l .blocks; edges = l .edges; pairs = simp length-append (omega arith) };
 }
 
--- ---- levels, locations, clearances
+-- ---- labels
 
-cloudLow : Keeps Any (λ d. (k : ℕ) → cloud d k .level ≤ 15)
-cloudLow = each-cloud Any (λ c. c .level ≤ 15) (λ s d b t. t .low)
+cloudLow : Keeps Any (λ d. (k : ℕ) → cloud d k .label ≤ 63)
+cloudLow = each-cloud Any (λ c. c .label ≤ 63) (λ s d b t. t .low)
 
-blockLow : Keeps Any (λ d. (b : ℕ) → block d b .level ≤ 15)
-blockLow = each-block Any (λ b. b .level ≤ 15) (λ s d b t. t .low) (λ s d b t. t .low) (λ b k p. p)
+blockLow : Keeps Any (λ d. (b : ℕ) → block d b .label ≤ 63)
+blockLow = each-block Any (λ b. b .label ≤ 63) (λ s d b t. t .low) (λ s d b t. t .low) (λ b k p. p)
 
 clearanceLow : Keeps Any (λ d. (b : ℕ) → lowClearance (block d b .kind))
 clearanceLow = each-block Any (λ b. lowClearance (b .kind)) (λ s d b t. tt) (λ s d b t. t .lowClearance) (λ b k p. p)

@@ -15,6 +15,7 @@ use Rattle.description.specs.declared.workflow.Edge.{Edge}
 use Rattle.description.specs.declared.workflow.Pair.{Pair}
 use Rattle.description.specs.declared.workflow.Way.{Way}
 use Rattle.description.specs.declared.workflow.Way.the-variants.{Reads, Writes}
+use Rattle.labels.specs.Labels.{noLabel}
 use Rattle.sequences.specs.Lists.{any}
 use Rattle.sequences.specs.Results.{Result, ok, refused, andThen}
 
@@ -43,10 +44,10 @@ withPair d a = record { clouds = d .clouds; blocks = d .blocks; edges = d .edges
 
 -- cloud k, block b, edge n and pair n, by number; what stands past the last is never declared
 abbrev pub noCloud : Cloud
-noCloud = record { level = 0; storage = 0; inward = 0; outward = 0; cpu = 0 }
+noCloud = record { label = 0; storage = 0; inward = 0; outward = 0; cpu = 0 }
 
 abbrev pub noBlock : Block
-noBlock = record { level = 0; kind = Datum 0 0; pin = Free }
+noBlock = record { label = 0; kind = Datum 0 0; pin = Free }
 
 abbrev pub noEdge : Edge
 noEdge = record { way = Reads; service = 0; datum = 0 }
@@ -68,7 +69,7 @@ pair d n = getD (d .pairs) n noPair
 
 -- the block with a pin to cloud k
 abbrev pub pinned : Block → ℕ → Block
-pinned b k = record { level = b .level; kind = b .kind; pin = To k }
+pinned b k = record { label = b .label; kind = b .kind; pin = To k }
 
 abbrev pub withPin : Description → ℕ → ℕ → Description
 withPin d b k = record { clouds = d .clouds; blocks = set (d .blocks) b (pinned (block d b) k); edges = d .edges; pairs = d .pairs }
@@ -131,10 +132,6 @@ u16At s i = u8At s i * 256 + u8At s (i + 1)
 abbrev pub u32At : List ℕ → ℕ → ℕ
 u32At s i = u16At s i * 65536 + u16At s (i + 2)
 
--- levels, locations and clearances go up to 15
-abbrev pub tooHigh : ℕ → Bool
-tooHigh level = ltb 15 level
-
 -- A command that bytes begin with: how many bytes it has; the numbers with which it is refused, each with whether it is, in the
 -- order in which they are tested; and the description with it.
 pub record Command : Type 0 where
@@ -142,13 +139,13 @@ pub record Command : Type 0 where
   pub faults : List (ℕ × Bool)
   pub after : Description
 
--- 01: level 1, storage rate 2, in rate 2, out rate 2, cpu rate 2. At most 8 clouds.
+-- 01: label 1, storage rate 2, in rate 2, out rate 2, cpu rate 2. At most 8 clouds.
 abbrev pub cloudAt : List ℕ → Description → Command
 cloudAt s d = record {
   width = 10;
-  faults = (4, leb 8 (length (d .clouds))) ∷ (5, tooHigh (u8At s 1)) ∷ [];
+  faults = (4, leb 8 (length (d .clouds))) ∷ (5, noLabel (u8At s 1)) ∷ [];
   after = withCloud d (record {
-    level = u8At s 1;
+    label = u8At s 1;
     storage = u16At s 2;
     inward = u16At s 4;
     outward = u16At s 6;
@@ -156,20 +153,20 @@ cloudAt s d = record {
   });
 }
 
--- 02: level 1, size 2, longevity 2. At most 16 blocks, data and services together.
+-- 02: label 1, size 2, longevity 2. At most 16 blocks, data and services together.
 abbrev pub datumAt : List ℕ → Description → Command
 datumAt s d = record {
   width = 6;
-  faults = (4, leb 16 (length (d .blocks))) ∷ (5, tooHigh (u8At s 1)) ∷ [];
-  after = withBlock d (record { level = u8At s 1; kind = Datum (u16At s 2) (u16At s 4); pin = Free });
+  faults = (4, leb 16 (length (d .blocks))) ∷ (5, noLabel (u8At s 1)) ∷ [];
+  after = withBlock d (record { label = u8At s 1; kind = Datum (u16At s 2) (u16At s 4); pin = Free });
 }
 
--- 03: location 1, clearance 1, cpu units 4
+-- 03: location 1 and clearance 1, both labels, cpu units 4
 abbrev pub serviceAt : List ℕ → Description → Command
 serviceAt s d = record {
   width = 7;
-  faults = (4, leb 16 (length (d .blocks))) ∷ (5, tooHigh (u8At s 1) || tooHigh (u8At s 2)) ∷ [];
-  after = withBlock d (record { level = u8At s 1; kind = Service (u8At s 2) (u32At s 3); pin = Free });
+  faults = (4, leb 16 (length (d .blocks))) ∷ (5, noLabel (u8At s 1) || noLabel (u8At s 2)) ∷ [];
+  after = withBlock d (record { label = u8At s 1; kind = Service (u8At s 2) (u32At s 3); pin = Free });
 }
 
 -- 04 and 05: service 1, datum 1. At most 32 edges, reads and writes together.

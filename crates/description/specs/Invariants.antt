@@ -17,10 +17,10 @@ pub record Limits (d : Description) : Type 0 where
   pub edges : length (d .edges) ≤ 32
   pub pairs : length (d .pairs) ≤ 8
 
--- a service's clearance is at most 15
+-- a service's clearance is a label
 abbrev pub lowClearance : Kind → Type 0
 lowClearance (Datum size longevity) = Unit {0}
-lowClearance (Service clearance units) = clearance ≤ 15
+lowClearance (Service clearance units) = clearance ≤ 63
 
 -- a pin names one of n clouds
 abbrev pub pinBelow : ℕ → Pin → Type 0
@@ -32,9 +32,9 @@ pub record WellFormed (d : Description) : Type 0 where
   pub limits : Limits d
   pub someCloud : 0 < length (d .clouds)
   pub someBlock : 0 < length (d .blocks)
-  -- levels, locations and clearances
-  pub cloudLow : (k : ℕ) → cloud d k .level ≤ 15
-  pub blockLow : (b : ℕ) → block d b .level ≤ 15
+  -- labels: of clouds, of data and locations, and clearances
+  pub cloudLow : (k : ℕ) → cloud d k .label ≤ 63
+  pub blockLow : (b : ℕ) → block d b .label ≤ 63
   pub clearanceLow : (b : ℕ) → lowClearance (block d b .kind)
   -- every pin names a declared cloud
   pub pins : (b : ℕ) → pinBelow (length (d .clouds)) (block d b .pin)

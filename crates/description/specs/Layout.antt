@@ -66,7 +66,7 @@ part f start many w = map (λ r. f (recordAt w r)) (from start many)
 
 -- A record as a cloud, a block, an edge or a pair. What does not fit into a field is cut off, so that every record is one.
 abbrev pub toCloud : Record → Cloud
-toCloud x = record { level = x .a % 256; storage = x .b % 65536; inward = x .c % 65536; outward = x .d % 65536; cpu = x .e % 65536 }
+toCloud x = record { label = x .a % 256; storage = x .b % 65536; inward = x .c % 65536; outward = x .d % 65536; cpu = x .e % 65536 }
 
 abbrev pub toKind : Record → Kind
 toKind x = cond (eqb (x .b) 0) (Datum (x .c % 65536) (x .d % 65536)) (Service (x .c % 256) (x .d))
@@ -76,7 +76,7 @@ abbrev pub toPin : ℕ → Pin
 toPin n = cond (eqb n 0) Free (To ((n - 1) % 256))
 
 abbrev pub toBlock : Record → Block
-toBlock x = record { level = x .a % 256; kind = toKind x; pin = toPin (x .e) }
+toBlock x = record { label = x .a % 256; kind = toKind x; pin = toPin (x .e) }
 
 abbrev pub toWay : ℕ → Way
 toWay n = cond (eqb n 0) Reads Writes

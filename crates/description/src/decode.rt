@@ -36,6 +36,7 @@ use crate::workflow::put_cloud;
 use crate::workflow::put_edge;
 use crate::workflow::put_pair;
 use crate::workflow::put_pin;
+use labels::HIGHEST_LABEL;
 use sequences::wide;
 
 // The numbers that a description is refused with.
@@ -51,7 +52,7 @@ const AFTER_THE_END: u8 = 3;
 // A cloud, a block, an edge or a pair too many.
 const TOO_MANY: u8 = 4;
 
-// A level, a location or a clearance too high.
+// A byte that is no label.
 const OUT_OF_RANGE: u8 = 5;
 
 // A name that nothing has, or nothing of that kind.
@@ -92,9 +93,6 @@ const EDGE_WIDTH: usize = 3;
 const PIN_WIDTH: usize = 3;
 
 const PAIR_WIDTH: usize = 3;
-
-// Levels, locations and clearances go up to it.
-const HIGHEST_LEVEL: u8 = 15;
 
 // What is wrong with one command: nothing, or the number that it is refused with.
 pub enum Checked {
@@ -205,11 +203,11 @@ fn cloud_step(s: &[u8], w: &mut Words) -> Step
     if MOST_CLOUDS <= cloud_count(w) {
         return faulty(TOO_MANY, CLOUD_WIDTH);
     }
-    if HIGHEST_LEVEL < s[1] {
+    if HIGHEST_LABEL < s[1] {
         return faulty(OUT_OF_RANGE, CLOUD_WIDTH);
     }
     let c = Cloud {
-        level: s[1],
+        label: s[1],
         storage: be16(s, 2),
         inward: be16(s, 4),
         outward: be16(s, 6),
@@ -228,11 +226,11 @@ fn datum_step(s: &[u8], w: &mut Words) -> Step
     if MOST_BLOCKS <= block_count(w) {
         return faulty(TOO_MANY, DATUM_WIDTH);
     }
-    if HIGHEST_LEVEL < s[1] {
+    if HIGHEST_LABEL < s[1] {
         return faulty(OUT_OF_RANGE, DATUM_WIDTH);
     }
     let b = Block {
-        level: s[1],
+        label: s[1],
         kind: Kind::Datum {
             size: be16(s, 2),
             longevity: be16(s, 4),
@@ -252,14 +250,14 @@ fn service_step(s: &[u8], w: &mut Words) -> Step
     if MOST_BLOCKS <= block_count(w) {
         return faulty(TOO_MANY, SERVICE_WIDTH);
     }
-    if HIGHEST_LEVEL < s[1] {
+    if HIGHEST_LABEL < s[1] {
         return faulty(OUT_OF_RANGE, SERVICE_WIDTH);
     }
-    if HIGHEST_LEVEL < s[2] {
+    if HIGHEST_LABEL < s[2] {
         return faulty(OUT_OF_RANGE, SERVICE_WIDTH);
     }
     let b = Block {
-        level: s[1],
+        label: s[1],
         kind: Kind::Service {
             clearance: s[2],
             units: be32(s, 3),

@@ -20,7 +20,7 @@ use crate::words::put_record;
 use crate::words::record_at;
 
 pub struct Cloud {
-    pub level: u8,
+    pub label: u8,
     pub storage: u16,
     pub inward: u16,
     pub outward: u16,
@@ -39,9 +39,9 @@ pub enum Pin {
     To(u8),
 }
 
-// A block: its level (a datum's level, a service's location) and pin, and its kind's own fields.
+// A block: its label (of a service its location) and pin, and its kind's own fields.
 pub struct Block {
-    pub level: u8,
+    pub label: u8,
     pub kind: Kind,
     pub pin: Pin,
 }
@@ -80,7 +80,7 @@ fn to_cloud(x: Record) -> Cloud
     ensures { λ r. ⌜ r ≡ toCloud x ⌝ }
 {
     Cloud {
-        level: (x.a % 256) as u8,
+        label: (x.a % 256) as u8,
         storage: (x.b % 65536) as u16,
         inward: (x.c % 65536) as u16,
         outward: (x.d % 65536) as u16,
@@ -116,7 +116,7 @@ fn to_block(x: Record) -> Block
     ensures { λ r. ⌜ r ≡ toBlock x ⌝ }
 {
     Block {
-        level: (x.a % 256) as u8,
+        label: (x.a % 256) as u8,
         kind: to_kind(x),
         pin: to_pin(x.e),
     }
@@ -154,7 +154,7 @@ fn cloud_record(c: Cloud) -> Record
     ensures { λ r. ⌜ toCloud r ≡ c ⌝ }
 {
     Record {
-        a: c.level as u32,
+        a: c.label as u32,
         b: c.storage as u32,
         c: c.inward as u32,
         d: c.outward as u32,
@@ -176,7 +176,7 @@ fn block_record(b: Block) -> Record
 {
     let kind = b.kind;
     let pin = b.pin;
-    let a = b.level as u32;
+    let a = b.label as u32;
     let e = pin_word(pin);
     match kind {
         Kind::Datum { size, longevity } => Record {
@@ -297,12 +297,20 @@ pub fn cloud_at(w: &Words, k: usize) -> Cloud
         return to_cloud(record_at(w, CLOUDS + k));
     }
     Cloud {
-        level: 0,
+        label: 0,
         storage: 0,
         inward: 0,
         outward: 0,
         cpu: 0,
     }
+}
+
+// A block that is known to be declared: nothing is compared.
+pub fn declared_block(w: &Words, b: usize) -> Block
+    requires { ⌜ b < length (describes (now w) .blocks) ⌝ }
+    ensures { λ r. ⌜ r ≡ block (describes (now (w .entry))) b ⌝ }
+{
+    to_block(record_at(w, BLOCKS + b))
 }
 
 pub fn block_at(w: &Words, b: usize) -> Block
@@ -312,7 +320,7 @@ pub fn block_at(w: &Words, b: usize) -> Block
         return to_block(record_at(w, BLOCKS + b));
     }
     Block {
-        level: 0,
+        label: 0,
         kind: Kind::Datum {
             size: 0,
             longevity: 0,
@@ -395,7 +403,7 @@ pub fn put_pin(w: &mut Words, b: usize, k: u8)
     let old = block_at(w, b);
     let kind = old.kind;
     let new = Block {
-        level: old.level,
+        label: old.label,
         kind,
         pin: Pin::To(k),
     };

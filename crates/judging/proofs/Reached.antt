@@ -1,7 +1,9 @@
 -- The table of `specs/Reached.antt`, by computation.
 use mathlib.Core.Path.{refl}
 use Rattle.description.specs.Format.{samePair, decode}
-use Rattle.security.specs.Soundness.{covers, breaks2, breaks3, breaks4, mayStand, choicesOf, count, sound, read}
+use Rattle.labels.specs.Labels.{covers}
+use Rattle.sequences.specs.Bits.{bit}
+use Rattle.security.specs.Soundness.{breaks2, breaks3, breaks4, mayStand, choicesOf, count, sound, read}
 use Rattle.security.specs.Placements.{moves, exposes, breaks16, breaks17, copies, holds, holdsBoth, together, badPosition, judge}
 use Rattle.costs.specs.Transfers.{transfers}
 use Rattle.judging.specs.Calls.{readCall, judgeCall, transfersCall}
@@ -11,7 +13,7 @@ use Rattle.judging.specs.Reached.{Reached}
 pub reached : Reached
 unfolding
     samePair decode
-    read sound breaks2 breaks3 breaks4 mayStand covers choicesOf count
+    read sound breaks2 breaks3 breaks4 mayStand covers bit choicesOf count
     judge badPosition breaks16 breaks17 exposes moves together holdsBoth holds copies transfers
     readCall judgeCall transfersCall
 reached = record {
@@ -19,7 +21,7 @@ reached = record {
   number2 = refl;
   number3 = refl;
   number4 = (refl, refl, refl, refl);
-  number5 = (refl, refl, refl);
+  number5 = (refl, refl, refl, refl);
   number6 = (refl, refl, refl, refl);
   number7 = (refl, refl, refl, refl, refl, refl);
   number8 = (refl, refl);

@@ -4,11 +4,11 @@ use mathlib.Core.List.{List, [], _∷_, _++_}
 use lib.ListN.{take}
 
 -- the commands, with rates, sizes, longevities and cpu units 0
-abbrev pub cloud : (level : ℕ) → List ℕ
-cloud level = 1 ∷ level ∷ 0 ∷ 0 ∷ 0 ∷ 0 ∷ 0 ∷ 0 ∷ 0 ∷ 0 ∷ []
+abbrev pub cloud : (label : ℕ) → List ℕ
+cloud label = 1 ∷ label ∷ 0 ∷ 0 ∷ 0 ∷ 0 ∷ 0 ∷ 0 ∷ 0 ∷ 0 ∷ []
 
-abbrev pub datum : (level : ℕ) → List ℕ
-datum level = 2 ∷ level ∷ 0 ∷ 0 ∷ 0 ∷ 0 ∷ []
+abbrev pub datum : (label : ℕ) → List ℕ
+datum label = 2 ∷ label ∷ 0 ∷ 0 ∷ 0 ∷ 0 ∷ []
 
 abbrev pub service : (location clearance : ℕ) → List ℕ
 service location clearance = 3 ∷ location ∷ clearance ∷ 0 ∷ 0 ∷ 0 ∷ 0 ∷ []

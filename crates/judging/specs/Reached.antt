@@ -44,10 +44,10 @@ pub record Reached : Type 0 where
   pub number4 :
       (readCall (flat 0 9) ≡ refused 4 80) × (readCall (flat 17 0) ≡ refused 4 96) × (readCall manyReads ≡ refused 4 174) ×
       (readCall (manyPairs ++ pair 0 1 ++ end) ≡ refused 4 54)
-  -- a level, a location, a clearance above 15
+  -- a byte above 63 for a cloud's or a datum's label, a location, a clearance
   pub number5 :
-      (readCall (cloud 0 ++ cloud 16 ++ end) ≡ refused 5 10) × (readCall (service 16 0) ≡ refused 5 0) ×
-      (readCall (service 0 16) ≡ refused 5 0)
+      (readCall (cloud 63 ++ cloud 64 ++ end) ≡ refused 5 10) × (readCall (datum 63 ++ datum 64) ≡ refused 5 6) ×
+      (readCall (service 64 63) ≡ refused 5 0) × (readCall (service 63 64) ≡ refused 5 0)
   -- a name undeclared; of the wrong kind; a pair's second name undeclared; its first a service, before the same name twice
   pub number6 :
       (readCall (cloud 0 ++ pin 0 0) ≡ refused 6 10) × (readCall (datum 0 ++ datum 0 ++ reads 0 1) ≡ refused 6 12) ×

@@ -81,7 +81,7 @@ pub fn accept_with_masks(description: &[u8], w: &mut Words, masks: &mut Masks) -
     admission
 }
 
-// The same for calls that look at no candidate but the one they are given.
+// The same for a call that needs no masks.
 pub fn accept(description: &[u8], w: &mut Words) -> Admission
     ensures { λ r. ⌜ admissionOf r (describes (now (w .exit))) ≡ counted (read (now (description .entry))) ⌝ }
     ensures { λ _. ⌜ Cleared (read (now (description .entry))) (now (w .exit)) ⌝ }

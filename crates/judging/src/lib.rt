@@ -61,9 +61,10 @@ pub fn judge(description: &[u8], placement: [u8; 16]) -> Verdict
     ensures { λ r. ⌜ judgeAnswer r ≡ judgeCall (now (description .entry)) placement ⌝ }
 {
     let mut w = [0u32; WORDS];
-    let admission = acceptance::accept(description, &mut w);
+    let mut masks = [0u8; POSITIONS];
+    let admission = acceptance::accept_with_masks(description, &mut w, &mut masks);
     match admission {
-        Admission::Accepted(_) => security::placements::verdict(&w, placement),
+        Admission::Accepted(_) => security::placements::verdict(&w, &masks, placement),
         Admission::Refused(r) => Verdict::Refused(r),
     }
 }
@@ -74,9 +75,10 @@ pub fn transfers(description: &[u8], placement: [u8; 16], buffer: &mut [u8]) -> 
     ensures { λ r. ⌜ now (buffer .exit) ≡ bufferAfter (transfersCall (now (description .entry)) placement (length (now (buffer .entry)))) (now (buffer .entry)) ⌝ }
 {
     let mut w = [0u32; WORDS];
-    let admission = acceptance::accept(description, &mut w);
+    let mut masks = [0u8; POSITIONS];
+    let admission = acceptance::accept_with_masks(description, &mut w, &mut masks);
     match admission {
-        Admission::Accepted(_) => costs::transfer::written_if_secure(&w, placement, buffer),
+        Admission::Accepted(_) => costs::transfer::written_if_secure(&w, &masks, placement, buffer),
         Admission::Refused(r) => Transferred::Refused(r),
     }
 }

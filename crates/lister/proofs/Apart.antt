@@ -1,7 +1,9 @@
 -- The example of `specs/Apart.antt`, by computation from the bytes.
 use mathlib.Core.Path.{refl}
 use Rattle.description.specs.Format.{samePair, decode}
-use Rattle.security.specs.Soundness.{covers, breaks2, breaks3, breaks4, mayStand, choicesOf, candidates, count, sound, read}
+use Rattle.labels.specs.Labels.{covers}
+use Rattle.sequences.specs.Bits.{bit}
+use Rattle.security.specs.Soundness.{breaks2, breaks3, breaks4, mayStand, choicesOf, candidates, count, sound, read}
 use Rattle.security.specs.Placements.{moves, exposes, breaks16, breaks17, copies, holds, holdsBoth, together, brokenApart, badPosition, judge}
 use Rattle.costs.specs.Transfers.{transfers}
 use Rattle.costs.specs.Cost.{gigabytes, cost}
@@ -15,7 +17,7 @@ use Rattle.lister.specs.Apart.{Apart}
 pub apart : Apart
 unfolding
     samePair decode
-    read sound breaks2 breaks3 breaks4 mayStand covers choicesOf count candidates
+    read sound breaks2 breaks3 breaks4 mayStand covers bit choicesOf count candidates
     judge badPosition breaks16 breaks17 exposes moves together holdsBoth holds copies brokenApart
     transfers cost gigabytes option sameOption
     readCall judgeCall censusCall

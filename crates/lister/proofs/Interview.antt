@@ -3,7 +3,9 @@ use Prim.Native.Nat.{ℕ}
 use mathlib.Core.Path.{_≡_, refl, ap}
 use Rattle.description.specs.Format.{Description, decode}
 use Rattle.judging.specs.Inputs.{flat}
-use Rattle.security.specs.Soundness.{covers, breaks2, breaks3, breaks4, mayStand, choicesOf, candidates, count, sound, read}
+use Rattle.labels.specs.Labels.{covers}
+use Rattle.sequences.specs.Bits.{bit}
+use Rattle.security.specs.Soundness.{breaks2, breaks3, breaks4, mayStand, choicesOf, candidates, count, sound, read}
 use Rattle.security.specs.Placements.{moves, exposes, breaks16, breaks17, brokenApart, badPosition, judge}
 use Rattle.costs.specs.Transfers.{transfers}
 use Rattle.costs.specs.Cost.{gigabytes, cost}
@@ -24,7 +26,7 @@ counted (refused number place) = refl
 pub interview : Interview
 unfolding
     decode
-    read sound breaks2 breaks3 breaks4 mayStand covers choicesOf count candidates
+    read sound breaks2 breaks3 breaks4 mayStand covers bit choicesOf count candidates
     judge badPosition breaks16 breaks17 exposes moves brokenApart
     transfers cost gigabytes option sameOption
     readCall judgeCall censusCall drawCall

@@ -1,7 +1,9 @@
 -- The pictures of `specs/Interview.antt`, by computation from the bytes.
 use mathlib.Core.Path.{refl}
 use Rattle.description.specs.Format.{samePair, decode}
-use Rattle.security.specs.Soundness.{covers, breaks2, breaks3, breaks4, mayStand, choicesOf, count, sound, read}
+use Rattle.labels.specs.Labels.{covers}
+use Rattle.sequences.specs.Bits.{bit}
+use Rattle.security.specs.Soundness.{breaks2, breaks3, breaks4, mayStand, choicesOf, count, sound, read}
 use Rattle.security.specs.Placements.{moves, exposes, breaks16, breaks17, copies, holds, holdsBoth, together, badPosition, judge}
 use Rattle.list_text.specs.Lines.{digits, decimal}
 use Rattle.picture.specs.Picture.{readPath, writePath, pathOf, edgeLine, hasEdge, blockLine, picture}
@@ -11,7 +13,7 @@ use Rattle.picture.specs.Interview.{Interview}
 pub interview : Interview
 unfolding
     samePair decode
-    read sound breaks2 breaks3 breaks4 mayStand covers choicesOf count
+    read sound breaks2 breaks3 breaks4 mayStand covers bit choicesOf count
     judge badPosition breaks16 breaks17 exposes moves together holdsBoth holds copies
     digits decimal
     readPath writePath pathOf edgeLine hasEdge blockLine picture

@@ -12,10 +12,11 @@ mod text;
 use description::words::WORDS;
 use description::words::Words;
 use description::workflow::Refusal;
-use judging::acceptance::accept;
+use judging::acceptance::accept_with_masks;
 use judging::answers::Admission;
 use lines::draw;
 use security::answers::Verdict;
+use security::masks::POSITIONS;
 use security::placements::verdict;
 use text::put_text;
 
@@ -34,9 +35,10 @@ const SHEET_BYTES: usize = 1774;
 fn judged(description: &[u8], placement: [u8; 16], w: &mut Words) -> Verdict
     ensures { λ r. ⌜ verdictOn r (describes (now (w .exit))) ≡ judged (now (description .entry)) placement ⌝ }
 {
-    let admission = accept(description, w);
+    let mut masks = [0u8; POSITIONS];
+    let admission = accept_with_masks(description, w, &mut masks);
     match admission {
-        Admission::Accepted(_) => verdict(w, placement),
+        Admission::Accepted(_) => verdict(w, &masks, placement),
         Admission::Refused(r) => Verdict::Refused(r),
     }
 }

@@ -9,30 +9,33 @@ use borrow.Author.Tests.{lt-ltb, le-ltb}
 use Rattle.description.specs.Format.{Description, block}
 use Rattle.sequences.specs.Lists.{keep, below}
 use Rattle.sequences.proofs.Agreeing.{keep-agree}
-use Rattle.security.specs.Soundness.{blockLevel, pinAllows, highEnough, mayStand, choicesOf}
+use Rattle.security.specs.Soundness.{blockLabel, pinAllows, cloudCovers, mayStand, choicesOf}
 use Rattle.security.proofs.Standing.{block-stands}
 
 -- a cloud that is not declared is not high enough for anything
-pub not-declared : (d : Description) (level k : ℕ) → length (d .clouds) ≤ k → highEnough d level k ≡ false
-not-declared d level k l = simp (le-ltb k (length (d .clouds)) l)
+pub not-declared : (d : Description) (label k : ℕ) → length (d .clouds) ≤ k → cloudCovers d label k ≡ false
+not-declared d label k l = simp (le-ltb k (length (d .clouds)) l)
 
 module _ (d : Description) (b : ℕ) where
   -- a block may stand where it is high enough and where its pin allows
-  pub named-stands : (k : ℕ) → b < length (d .blocks) → mayStand d b k ≡ (highEnough d (blockLevel d b) k && pinAllows (block d b .pin) k)
+  pub named-stands : (k : ℕ) → b < length (d .blocks) → mayStand d b k ≡ (cloudCovers d (blockLabel d b) k && pinAllows (block d b .pin) k)
   unfolding mayStand
   named-stands k h = simp (lt-ltb b (length (d .blocks)) h)
 
   pub no-cloud : (k : ℕ) → b < length (d .blocks) → length (d .clouds) ≤ k → mayStand d b k ≡ false
-  no-cloud k h l = named-stands k h ∙ ap (λ t. t && pinAllows (block d b .pin) k) (not-declared d (blockLevel d b) k l)
+  no-cloud k h l = named-stands k h ∙ ap (λ t. t && pinAllows (block d b .pin) k) (not-declared d (blockLabel d b) k l)
 
   -- a cloud on which a block may stand is declared
   pub stands-declared : (k : ℕ) → b < length (d .blocks) → mayStand d b k ≡ true → k < length (d .clouds)
   stands-declared k h may = block-stands d b k h .0 may .declared
 
-  -- past the last block there is one choice
-  pub last-choice : length (d .blocks) ≤ b → keep (mayStand d b) (below 8) ≡ 0 ∷ []
+  -- past the last block there is one choice, 0
+  pub past-stands : (k : ℕ) → length (d .blocks) ≤ b → mayStand d b k ≡ eqb k 0
   unfolding mayStand
-  last-choice h = keep-agree (mayStand d b) (λ k. eqb k 0) (below 8) (λ k m. simp (le-ltb b (length (d .blocks)) h))
+  past-stands k h = simp (le-ltb b (length (d .blocks)) h)
+
+  pub last-choice : length (d .blocks) ≤ b → keep (mayStand d b) (below 8) ≡ 0 ∷ []
+  last-choice h = keep-agree (mayStand d b) (λ k. eqb k 0) (below 8) (λ k m. past-stands k h)
 
   pub one-choice : length (d .blocks) ≤ b → length (choicesOf d b) ≡ 1
   unfolding choicesOf

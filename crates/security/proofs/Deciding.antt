@@ -7,13 +7,14 @@ use mathlib.Core.Bool.{Bool, true, false, not, _&&_, true≢false, false≢true}
 use mathlib.Core.List.{List}
 use mathlib.Core.Option.{none, some}
 use lib.ListN.{getD}
-use borrow.Author.Tests.{leb-false, lt-leb, eqb-false, ne-eqb, not-true, not-false}
+use borrow.Author.Tests.{eqb-false, ne-eqb, not-true, not-false}
 use Rattle.description.specs.declared.workflow.Edge.{Edge}
 use Rattle.description.specs.declared.workflow.Way.{Way}
 use Rattle.description.specs.declared.workflow.Way.the-variants.{Reads, Writes}
 use Rattle.description.specs.Format.{Description, edge, noEdge, isWrite, sameWay}
-use Rattle.security.specs.Soundness.{covers, cloudLevel, blockLevel, positions}
-use Rattle.security.specs.Placements.{serviceCloud, moves, exposes, badPosition}
+use Rattle.labels.proofs.Covering.{covers-is, covers-not}
+use Rattle.security.specs.Soundness.{positions}
+use Rattle.security.specs.Placements.{moves, exposes, badPosition}
 use Rattle.security.specs.Statements.{Good, Placed, Keeps, Breaks, AllKeep, FirstBreaks}
 use Rattle.security.proofs.Standing.{may-stand}
 use Rattle.sequences.specs.Lists.{first}
@@ -66,23 +67,21 @@ same-way Writes Writes = (λ _. refl, λ _. refl)
 
 module _ (way : Way) (d : Description) (p : List ℕ) where
   breaking : (e : Edge) → (breaks way d p e ≡ true) ↔ Breaks way d p e
-  unfolding exposes moves covers
+  unfolding exposes moves
   breaking e = (
     λ t.
         let (w, x) = both-pass _ _ .0 t in
         let (m, l) = both-pass _ _ .0 x in
-        record { goes = same-way way (e .way) .0 w; moves = eqb-false _ _ (not-true _ m); exposes = leb-false _ _ (not-true _ l) },
+        record { goes = same-way way (e .way) .0 w; moves = eqb-false _ _ (not-true _ m); exposes = covers-not _ _ .0 (not-true _ l) },
     λ b. both-pass _ _ .1
-        (same-way way (e .way) .1 (b .goes), both-pass _ _ .1 (ap not (ne-eqb _ _ (b .moves)), ap not (lt-leb _ _ (b .exposes)))),
+        (same-way way (e .way) .1 (b .goes), both-pass _ _ .1 (ap not (ne-eqb _ _ (b .moves)), ap not (covers-not _ _ .1 (b .exposes)))),
   )
 
   keeping : (e : Edge) → (breaks way d p e ≡ false) ↔ Keeps way d p e
   keeping e = (
-    λ f w m.
-        let n : ¬ (cloudLevel d (serviceCloud p e) < blockLevel d (e .datum)) =
-        λ l. true≢false (sym (breaking e .1 (record { goes = w; moves = m; exposes = l })) ∙ f) in
-        omega arith,
-    λ k. not-passed _ (λ t. let b = breaking e .0 t in omega (arith, b .exposes, k (b .goes) (b .moves))),
+    λ f w m. covers-is _ _ .0
+        (not-failed _ (λ u. true≢false (sym (breaking e .1 (record { goes = w; moves = m; exposes = covers-not _ _ .0 u })) ∙ f))),
+    λ k. not-passed _ (λ t. let b = breaking e .0 t in absurd (b .exposes (k (b .goes) (b .moves)))),
   )
 
   -- no edge breaks the rule

@@ -7,7 +7,8 @@ use mathlib.Core.List.{List}
 use lib.Dec.{eqb}
 use Rattle.description.specs.declared.workflow.Edge.{Edge}
 use Rattle.description.specs.Format.{Description, isWrite}
-use Rattle.security.specs.Soundness.{covers, cloudLevel, blockLevel}
+use Rattle.labels.specs.Labels.{covers}
+use Rattle.security.specs.Soundness.{cloudLabel, blockLabel}
 use Rattle.security.specs.Placements.{serviceCloud, datumCloud, moves, exposes, breaks16, breaks17}
 
 -- an edge moves its datum where the clouds of its service and its datum differ
@@ -18,7 +19,7 @@ moves-apart p e = refl
 module _ (d : Description) (p : List ℕ) (e : Edge) where
   -- it exposes the copy where they differ and the service's cloud does not cover the datum
   pub exposes-apart : exposes d p e ≡
-      (not (eqb (serviceCloud p e) (datumCloud p e)) && not (covers (cloudLevel d (serviceCloud p e)) (blockLevel d (e .datum))))
+      (not (eqb (serviceCloud p e) (datumCloud p e)) && not (covers (cloudLabel d (serviceCloud p e)) (blockLabel d (e .datum))))
   unfolding exposes moves
   exposes-apart = refl
 

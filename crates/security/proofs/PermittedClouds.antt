@@ -6,21 +6,22 @@ use native.Mathlib.Decide.{decLt, ℕ-discrete}
 use native.Mathlib.Omega.{arith}
 use mathlib.Core.Path.{_≡_, refl, sym, ap, ap₂, _∙_}
 use mathlib.Core.Logic.{_↔_}
-use mathlib.Core.Bool.{Bool, true, false, _&&_, cond, and-false, false≢true}
+use mathlib.Core.Bool.{Bool, true, false, _&&_, cond, and-true, and-false, false≢true}
 use mathlib.Core.List.{List, [], _∷_, _++_, map, map-append, map-map}
 use lib.Count.{ones}
-use lib.Dec.{eqb, lit<}
+use lib.Dec.{ltb, eqb, lit<}
 use lib.ListN.{length, getD, length-map, List·getD-eq-default}
 use lib.Seq.{ext-getD}
 use borrow.Author.Tests.{ltb-true, lt-ltb, le-ltb, eq-eqb, ne-eqb}
 use Rattle.description.specs.declared.workflow.Pin.{Pin}
+use Rattle.description.specs.declared.workflow.Pin.the-variants.{Free, To}
 use Rattle.description.specs.Format.{Description, block, namesBlock}
 use Rattle.description.specs.Invariants.{Limits}
-use Rattle.security.specs.Masks.{maskOf, masksOf, Permitted, blockMasks, padded, Chooses}
-use Rattle.security.specs.Soundness.{blockLevel, pinAllows, highEnough, mayStand, choicesOf, candidates}
+use Rattle.security.specs.Masks.{leftBy, maskOf, masksOf, Permitted, blockMasks, padded, Chooses}
+use Rattle.security.specs.Soundness.{blockLabel, pinAllows, cloudCovers, mayStand, choicesOf, candidates}
 use Rattle.security.specs.Statements.{Stands}
 use Rattle.security.proofs.Candidates.{count-is-length, candidates-choices}
-use Rattle.security.proofs.Choices.{last-choice, named-stands}
+use Rattle.security.proofs.Choices.{named-stands, no-cloud, not-declared, past-stands, last-choice}
 use Rattle.security.proofs.Standing.{block-stands}
 use Rattle.sequences.specs.Bits.{bit, bits, setBits, bitChoices}
 use Rattle.sequences.specs.Lists.{from, below, product, sequences}
@@ -44,34 +45,53 @@ module _ (d : Description) where
   unfolding maskOf
   mask-beyond b h = simp (le-ltb b (length (d .blocks)) h)
 
-  -- by its pin: all clouds that are high enough, or one of them
+  -- by its pin: all clouds that cover its label, or one of them
   pub mask-by-pin : (b : ℕ) (pin : Pin) → b < length (d .blocks) → block d b .pin ≡ pin
-      → bits (λ k. highEnough d (blockLevel d b) k && pinAllows pin k) 0 8 ≡ maskOf d b
+      → bits (λ k. cloudCovers d (blockLabel d b) k && pinAllows pin k) 0 8 ≡ maskOf d b
   mask-by-pin b pin h e =
-      bits-same _ _ 0 8 (λ k _ _. ap (λ p. highEnough d (blockLevel d b) k && pinAllows p k) (sym e) ∙ sym (named-stands d b k h)) ∙ sym (mask-named b h)
+      bits-same _ _ 0 8 (λ k _ _. ap (λ p. cloudCovers d (blockLabel d b) k && pinAllows p k) (sym e) ∙ sym (named-stands d b k h)) ∙ sym (mask-named b h)
 
-  module _ (level c : ℕ) where
+  module _ (label c : ℕ) where
     abbrev pinned : ℕ → Bool
-    pinned k = highEnough d level k && eqb c k
+    pinned k = cloudCovers d label k && eqb c k
 
     pinned-alone : (k : ℕ) → (c ≡ k → ⊥) → pinned k ≡ false
-    pinned-alone k n = ap (λ b. highEnough d level k && b) (ne-eqb c k n) ∙ and-false (highEnough d level k)
+    pinned-alone k n = ap (λ b. cloudCovers d label k && b) (ne-eqb c k n) ∙ and-false (cloudCovers d label k)
 
-    pinned-none : highEnough d level c ≡ false → (k : ℕ) → pinned k ≡ false
-    pinned-none low k = elim (ℕ-discrete c k) [
-      | yes e ↦ ap (λ i. highEnough d level i && eqb c i) (sym e) ∙ ap (λ a. a && eqb c c) low
+    pinned-none : cloudCovers d label c ≡ false → (k : ℕ) → pinned k ≡ false
+    pinned-none none k = elim (ℕ-discrete c k) [
+      | yes e ↦ ap (λ i. cloudCovers d label i && eqb c i) (sym e) ∙ ap (λ a. a && eqb c c) none
       | no n ↦ pinned-alone k n
     ]
 
-    pub pinned-bits : length (d .clouds) ≤ 8 → cond (highEnough d level c) (2 ^ c) 0 ≡ bits pinned 0 8
-    pinned-bits few = go (highEnough d level c) refl
+    pub pinned-bits : length (d .clouds) ≤ 8 → cond (cloudCovers d label c) (2 ^ c) 0 ≡ bits pinned 0 8
+    pinned-bits few = go (cloudCovers d label c) refl
       where
-        go : (b : Bool) → highEnough d level c ≡ b → cond b (2 ^ c) 0 ≡ bits pinned 0 8
-        go true high =
-            let there : c < 8 = omega (arith, ltb-true c (length (d .clouds)) (both-pass _ _ .0 high .0)) in
-            let here = ap pinned (zero-add c) ∙ ap₂ (λ a b. a && b) high (eq-eqb c c refl) in
+        go : (b : Bool) → cloudCovers d label c ≡ b → cond b (2 ^ c) 0 ≡ bits pinned 0 8
+        go true covers =
+            let there : c < 8 = omega (arith, ltb-true c (length (d .clouds)) (both-pass _ _ .0 covers .0)) in
+            let here = ap pinned (zero-add c) ∙ ap₂ (λ a b. a && b) covers (eq-eqb c c refl) in
             sym (bits-single pinned 0 8 c there (λ k n. pinned-alone k (λ e. n (omega arith))) ∙ ap (λ (b : Bool). cond b (2 ^ c) 0) here)
-        go false low = sym (sym (bits-cut pinned 0 8 (omega arith) (λ k _. pinned-none low k)) ∙ bits-none pinned 0)
+        go false none = sym (sym (bits-cut pinned 0 8 (omega arith) (λ k _. pinned-none none k)) ∙ bits-none pinned 0)
+
+  -- from the clouds that cover its label, by the pin
+  pub mask-left : length (d .clouds) ≤ 8 → (b : ℕ) → b < length (d .blocks)
+      → leftBy (block d b .pin) (bits (cloudCovers d (blockLabel d b)) 0 8) ≡ maskOf d b
+  mask-left few b h = go (block d b .pin) refl
+    where
+      covers : ℕ → Bool
+      covers = cloudCovers d (blockLabel d b)
+
+      tells : (c : ℕ) → bit (bits covers 0 8) c ≡ covers c
+      tells c = elim (decLt c 8) [
+        | yes l ↦ bit-bits covers 0 8 c l ∙ ap covers (zero-add c)
+        | no l ↦ bit-past 8 (bits covers 0 8) c (bits-small covers 0 8) (omega arith) ∙ sym (not-declared d (blockLabel d b) c (omega arith))
+      ]
+
+      go : (pin : Pin) → block d b .pin ≡ pin → leftBy pin (bits covers 0 8) ≡ maskOf d b
+      go Free e = bits-same covers (λ k. covers k && true) 0 8 (λ k _ _. sym (and-true (covers k))) ∙ mask-by-pin b Free h e
+      go (To c) e =
+          ap (λ (t : Bool). cond t (2 ^ c) 0) (tells c) ∙ pinned-bits (blockLabel d b) c few ∙ mask-by-pin b (To c) h e
 
   pub mask-low : (b : ℕ) → maskOf d b < 256
   unfolding maskOf
@@ -82,6 +102,13 @@ module _ (d : Description) where
   mask-stands b k h l =
       let same : 0 + k ≡ k = omega arith in
       ap (λ m. bit m k) (mask-named b h) ∙ bit-bits (mayStand d b) 0 8 k l ∙ ap (mayStand d b) same
+
+  -- of any cloud: from 8 on none is declared
+  mask-tells : (b k : ℕ) → b < length (d .blocks) → length (d .clouds) ≤ 8 → (ltb k 8 && bit (maskOf d b) k) ≡ mayStand d b k
+  mask-tells b k h few = elim (decLt k 8) [
+    | yes low ↦ simp (lt-ltb _ _ low) (mask-stands b k h low)
+    | no n ↦ let high : 8 ≤ k = omega arith in simp (le-ltb _ _ high) (sym (no-cloud d b k h (omega arith)))
+  ]
 
   pub mask-choices : (b : ℕ) → b < length (d .blocks) → setBits (maskOf d b) ≡ choicesOf d b
   unfolding choicesOf
@@ -99,6 +126,14 @@ module _ (d : Description) where
   pub mask-at : (b : ℕ) → b < 16 → getD (masksOf d) b 0 ≡ maskOf d b
   unfolding masksOf
   mask-at b h = getD-table 16 (maskOf d) b h
+
+  -- a position by its byte: past the last block 0 alone is good
+  pub byte-tells : (b k : ℕ) → b < 16 → length (d .clouds) ≤ 8
+      → cond (namesBlock d b) (ltb k 8 && bit (getD (masksOf d) b 0) k) (eqb k 0) ≡ mayStand d b k
+  byte-tells b k h few = elim (decLt b (length (d .blocks))) [
+    | yes named ↦ simp (lt-ltb _ _ named, mask-at b h) (mask-tells b k named few)
+    | no n ↦ let past : length (d .blocks) ≤ b = omega arith in simp (le-ltb _ _ past) (sym (past-stands d b k past))
+  ]
 
   -- what holds of each byte and of 0 holds everywhere
   byte-low : (b : ℕ) → getD (masksOf d) b 0 < 256

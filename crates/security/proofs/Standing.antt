@@ -1,5 +1,5 @@
--- Where a block may stand, by plain orders and equations: on a declared cloud that has its level and keeps its pin. A position past the
--- last block may have 0 alone.
+-- Where a block may stand, from the rules: on a declared cloud whose label covers its own, and that keeps its pin. A position past the last
+-- block may have 0 alone.
 use Prim.Native.Nat.{ℕ, _≤_, _<_}
 use native.Mathlib.Decide.{decLt}
 use native.Mathlib.Omega.{arith}
@@ -8,11 +8,12 @@ use mathlib.Core.Logic.{_↔_}
 use mathlib.Core.Bool.{true, _&&_, false≢true}
 use mathlib.Core.List.{List}
 use lib.ListN.{length, getD}
-use borrow.Author.Tests.{ltb-true, lt-ltb, le-ltb, leb-true, le-leb, eqb-true, eq-eqb}
+use borrow.Author.Tests.{ltb-true, lt-ltb, le-ltb, eqb-true, eq-eqb}
 use Rattle.description.specs.declared.workflow.Pin.{Pin}
 use Rattle.description.specs.declared.workflow.Pin.the-variants.{Free, To}
 use Rattle.description.specs.Format.{Description, block, isPinned}
-use Rattle.security.specs.Soundness.{covers, blockLevel, pinAllows, highEnough, mayStand}
+use Rattle.labels.proofs.Covering.{covers-is}
+use Rattle.security.specs.Soundness.{blockLabel, pinAllows, cloudCovers, mayStand}
 use Rattle.security.specs.Statements.{Stands, Good}
 use Rattle.sequences.proofs.Tests.{both-pass}
 
@@ -21,14 +22,13 @@ pin-kept Free k = (λ _ c e. absurd (false≢true (ap isPinned e)), λ _. refl)
 pin-kept (To c) k = (λ t b e. let same : c ≡ b = cc in sym same ∙ eqb-true c k t, λ h. eq-eqb c k (h c refl))
 
 module _ (d : Description) where
-  stands-test : (b k : ℕ) → ((highEnough d (blockLevel d b) k && pinAllows (block d b .pin) k) ≡ true) ↔ Stands d b k
-  unfolding covers
+  stands-test : (b k : ℕ) → ((cloudCovers d (blockLabel d b) k && pinAllows (block d b .pin) k) ≡ true) ↔ Stands d b k
   stands-test b k = (
     λ t.
         let (u, pin) = both-pass _ _ .0 t in
-        let (named, level) = both-pass _ _ .0 u in
-        record { declared = ltb-true k (length (d .clouds)) named; rule7 = leb-true _ _ level; pin = pin-kept (block d b .pin) k .0 pin },
-    λ s. both-pass _ _ .1 (both-pass _ _ .1 (lt-ltb _ _ (s .declared), le-leb _ _ (s .rule7)), pin-kept (block d b .pin) k .1 (s .pin)),
+        let (named, covered) = both-pass _ _ .0 u in
+        record { declared = ltb-true k (length (d .clouds)) named; rule7 = covers-is _ _ .0 covered; pin = pin-kept (block d b .pin) k .0 pin },
+    λ s. both-pass _ _ .1 (both-pass _ _ .1 (lt-ltb _ _ (s .declared), covers-is _ _ .1 (s .rule7)), pin-kept (block d b .pin) k .1 (s .pin)),
   )
 
   -- a declared block

@@ -1,6 +1,6 @@
 -- A placement keeps rules 16 and 17 where no edge, read or written, exposes a copy; and a candidate where on each edge the service's cloud
--- has at least the datum's level.
-use Prim.Native.Nat.{ℕ, _≤_, _<_}
+-- has a label that covers the datum's.
+use Prim.Native.Nat.{ℕ, _<_}
 use native.Mathlib.Decide.{ℕ-discrete}
 use native.Mathlib.Omega.{arith}
 use mathlib.Core.Path.{_≡_, refl, sym, ap, _∙_}
@@ -9,11 +9,13 @@ use mathlib.Core.Bool.{Bool, true, false, not}
 use mathlib.Core.List.{List, List·Memᴰ}
 use lib.Dec.{eqb}
 use lib.ListN.{length}
-use borrow.Author.Tests.{ltb-true, leb-true, le-leb, ne-eqb, not-true, not-false}
+use borrow.Author.Tests.{ltb-true, ne-eqb, not-true, not-false}
 use Rattle.description.specs.declared.workflow.Edge.{Edge}
 use Rattle.description.specs.Format.{Description, noEdge, isWrite}
 use Rattle.description.specs.Invariants.{WellFormed}
-use Rattle.security.specs.Soundness.{covers, cloudLevel, blockLevel}
+use Rattle.labels.specs.Labels.{Covers}
+use Rattle.labels.proofs.Covering.{covers-is}
+use Rattle.security.specs.Soundness.{cloudLabel, blockLabel}
 use Rattle.security.specs.Placements.{serviceCloud, datumCloud, exposes, breaks16, breaks17, unexposed}
 use Rattle.security.specs.Statements.{Placed}
 use Rattle.security.proofs.Moves.{exposes-apart, read-breaks, write-breaks}
@@ -39,21 +41,22 @@ module _ (d : Description) (p : List ℕ) where
         λ h. both-pass _ _ .1 (ap not (keeps16 .1 (λ e m. edge-keeps e .0 (h e m) .0)), ap not (keeps17 .1 (λ e m. edge-keeps e .0 (h e m) .1))),
       )
 
--- Where a candidate's datum stands on the service's cloud itself, that cloud has its level by rule 7. So on which clouds the data stand
+-- Where a candidate's datum stands on the service's cloud itself, that cloud's label covers the datum's by rule 7. So on which clouds the data stand
 -- does not matter.
 pub unexposed-covered : (d : Description) → WellFormed d → (p : List ℕ) → Placed d p
-    → (unexposed d p ≡ true) ↔ ((e : Edge) → List·Memᴰ e (d .edges) → blockLevel d (e .datum) ≤ cloudLevel d (serviceCloud p e))
-unfolding covers
+    → (unexposed d p ≡ true) ↔ ((e : Edge) → List·Memᴰ e (d .edges) → Covers (cloudLabel d (serviceCloud p e)) (blockLabel d (e .datum)))
 unexposed-covered d w p placed = (
   λ s e m. elim (ℕ-discrete (serviceCloud p e) (datumCloud p e)) [
-    | yes here ↦ rw here (own-level e m)
-    | no away ↦ leb-true _ _ (not-false _ (rw (ne-eqb (serviceCloud p e) (datumCloud p e) away) at (sym (exposes-apart d p e) ∙ unexposed-edges d p .0 s e m)))
+    | yes here ↦ rw here (own-label e m)
+    | no away ↦
+        let kept = sym (exposes-apart d p e) ∙ unexposed-edges d p .0 s e m in
+        covers-is _ _ .0 (not-false _ (rw (ne-eqb (serviceCloud p e) (datumCloud p e) away) at kept))
   ],
-  λ h. unexposed-edges d p .1 (λ e m. exposes-apart d p e ∙ and-fails (not (eqb (serviceCloud p e) (datumCloud p e))) _ (ap not (le-leb _ _ (h e m)))),
+  λ h. unexposed-edges d p .1 (λ e m. exposes-apart d p e ∙ and-fails (not (eqb (serviceCloud p e) (datumCloud p e))) _ (ap not (covers-is _ _ .1 (h e m)))),
 )
   where
-    own-level : (e : Edge) → List·Memᴰ e (d .edges) → blockLevel d (e .datum) ≤ cloudLevel d (datumCloud p e)
-    own-level e m =
+    own-label : (e : Edge) → List·Memᴰ e (d .edges) → Covers (cloudLabel d (datumCloud p e)) (blockLabel d (e .datum))
+    own-label e m =
         let (n, h, at) = member-at noEdge m in
         let declared : e .datum < length (d .blocks) = rw (← at) (ltb-true _ _ (both-pass _ _ .0 (w .datum n h) .0)) in
         placed (e .datum) (omega (arith, w .limits .blocks)) .stands declared .rule7

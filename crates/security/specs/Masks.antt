@@ -1,10 +1,12 @@
 -- The permitted clouds as bits: a byte for each of the sixteen positions, by which a walk goes over the candidates.
-use Prim.Native.Nat.{ℕ, _-_, _≤_, _<_}
+use Prim.Native.Nat.{ℕ, _-_, _^_, _≤_, _<_}
 use mathlib.Core.Path.{_≡_}
 use mathlib.Core.Logic.{_↔_}
 use mathlib.Core.Bool.{true, cond}
 use mathlib.Core.List.{List, _++_, map}
 use lib.ListN.{length, getD, take, replicate}
+use Rattle.description.specs.declared.workflow.Pin.{Pin}
+use Rattle.description.specs.declared.workflow.Pin.the-variants.{Free, To}
 use Rattle.description.specs.Format.{Description, namesBlock}
 use Rattle.security.specs.Soundness.{mayStand, candidates, count}
 use Rattle.security.specs.Statements.{Stands}
@@ -12,6 +14,11 @@ use Rattle.sequences.specs.Arrays.{table}
 use Rattle.sequences.specs.Ascending.{Ascending, Once}
 use Rattle.sequences.specs.Bits.{bit, bits, setBits, bitChoices}
 use Rattle.sequences.specs.Lists.{before, product}
+
+-- of some clouds, as bits, those that a pin leaves
+abbrev pub leftBy : Pin → ℕ → ℕ
+leftBy Free clouds = clouds
+leftBy (To c) clouds = cond (bit clouds c) (2 ^ c) 0
 
 -- bit k is set where block b may stand on cloud k; past the last block there is 0, although a position there may have cloud 0
 unfoldable pub maskOf : Description → ℕ → ℕ

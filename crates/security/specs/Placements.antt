@@ -7,7 +7,8 @@ use lib.Dec.{eqb}
 use Rattle.description.specs.declared.workflow.Edge.{Edge}
 use Rattle.description.specs.declared.workflow.Pair.{Pair}
 use Rattle.description.specs.Format.{Description, isWrite}
-use Rattle.security.specs.Soundness.{covers, cloudLevel, blockLevel, mayStand, positions}
+use Rattle.security.specs.Soundness.{cloudLabel, blockLabel, mayStand, positions}
+use Rattle.labels.specs.Labels.{covers}
 use Rattle.sequences.specs.Lists.{any, first, below}
 use Rattle.sequences.specs.Results.{Result, ok, unless}
 
@@ -22,9 +23,9 @@ datumCloud p e = getD p (e .datum) 0
 unfoldable pub moves : List ℕ → Edge → Bool
 moves p e = not (eqb (serviceCloud p e) (datumCloud p e))
 
--- the copy lies on a cloud whose level is below the datum's
+-- the copy lies on a cloud whose label does not cover the datum's
 unfoldable pub exposes : Description → List ℕ → Edge → Bool
-exposes d p e = moves p e && not (covers (cloudLevel d (serviceCloud p e)) (blockLevel d (e .datum)))
+exposes d p e = moves p e && not (covers (cloudLabel d (serviceCloud p e)) (blockLabel d (e .datum)))
 
 -- rule 16, of a read; rule 17, of a write
 unfoldable pub breaks16 : Description → List ℕ → Edge → Bool

@@ -4,7 +4,7 @@ use mathlib.Core.Bool.{Bool, true, false, not, _&&_, cond}
 use mathlib.Core.List.{List, map}
 use mathlib.Core.Option.{Option, none, some}
 use lib.ListN.{length}
-use lib.Dec.{ltb, leb, eqb}
+use lib.Dec.{ltb, eqb}
 use Rattle.description.specs.declared.workflow.Block.{Block}
 use Rattle.description.specs.declared.workflow.Kind.{Kind}
 use Rattle.description.specs.declared.workflow.Kind.the-variants.{Datum, Service}
@@ -12,19 +12,17 @@ use Rattle.description.specs.declared.workflow.Pin.{Pin}
 use Rattle.description.specs.declared.workflow.Pin.the-variants.{Free, To}
 use Rattle.description.specs.declared.workflow.Edge.{Edge}
 use Rattle.description.specs.Format.{Description, cloud, block, isWrite, namesCloud, namesBlock, decode}
+use Rattle.labels.specs.Labels.{covers}
 use Rattle.sequences.specs.Lists.{keep, first, below, sequences, product}
 use Rattle.sequences.specs.Results.{Result, ok, unless, andThen}
 
--- One level is at least as high as another: each ≥ between levels, locations and clearances in the rules is this.
-unfoldable pub covers : ℕ → ℕ → Bool
-covers high low = leb low high
+-- l of a cloud, by its number, and of a block (of a datum its own, of a service its location): labels, as clearances are. Each ≥ between
+-- them in the rules means covers.
+abbrev pub cloudLabel : Description → ℕ → ℕ
+cloudLabel d k = cloud d k .label
 
--- l of a cloud, by its number, and of a block (the level of a datum, the location of a service)
-abbrev pub cloudLevel : Description → ℕ → ℕ
-cloudLevel d k = cloud d k .level
-
-abbrev pub blockLevel : Description → ℕ → ℕ
-blockLevel d b = block d b .level
+abbrev pub blockLabel : Description → ℕ → ℕ
+blockLabel d b = block d b .label
 
 -- c of a service
 abbrev pub clearanceOf : Kind → ℕ
@@ -34,35 +32,34 @@ clearanceOf (Service clearance units) = clearance
 abbrev pub clearance : Description → ℕ → ℕ
 clearance d s = clearanceOf (block d s .kind)
 
--- rule 2: a service's location is at most its clearance
+-- rule 2: a service's clearance covers its location
 abbrev pub breaks2Kind : ℕ → Kind → Bool
 breaks2Kind location (Datum size longevity) = false
 breaks2Kind location (Service clearance units) = not (covers clearance location)
 
 unfoldable pub breaks2 : Block → Bool
-breaks2 b = breaks2Kind (b .level) (b .kind)
+breaks2 b = breaks2Kind (b .label) (b .kind)
 
--- rule 3: a reader's clearance is at least the level of the datum
+-- rule 3: a reader's clearance covers the label of the datum
 unfoldable pub breaks3 : Description → Edge → Bool
-breaks3 d e = not (isWrite (e .way)) && not (covers (clearance d (e .service)) (blockLevel d (e .datum)))
+breaks3 d e = not (isWrite (e .way)) && not (covers (clearance d (e .service)) (blockLabel d (e .datum)))
 
--- rule 4: a writer's location is at most the level of the datum
+-- rule 4: the label of a datum covers its writer's location
 unfoldable pub breaks4 : Description → Edge → Bool
-breaks4 d e = isWrite (e .way) && not (covers (blockLevel d (e .datum)) (blockLevel d (e .service)))
+breaks4 d e = isWrite (e .way) && not (covers (blockLabel d (e .datum)) (blockLabel d (e .service)))
 
 -- a pin lets its block stand on that cloud only
 abbrev pub pinAllows : Pin → ℕ → Bool
 pinAllows Free k = true
 pinAllows (To c) k = eqb c k
 
--- cloud k is declared, and its level is at least this (rule 7)
-abbrev pub highEnough : Description → (level k : ℕ) → Bool
-highEnough d level k = namesCloud d k && covers (cloudLevel d k) level
+-- cloud k is declared, and its label covers this one (rule 7)
+abbrev pub cloudCovers : Description → (label k : ℕ) → Bool
+cloudCovers d label k = namesCloud d k && covers (cloudLabel d k) label
 
--- Block b may stand on cloud k: k is declared, its level is at least that of b, and the pin of b is kept. A position past the last block
--- has 0.
+-- Block b may stand on cloud k: k is declared, its label covers that of b, and the pin of b is kept. A position past the last block has 0.
 unfoldable pub mayStand : Description → ℕ → ℕ → Bool
-mayStand d b k = cond (namesBlock d b) (highEnough d (blockLevel d b) k && pinAllows (block d b .pin) k) (eqb k 0)
+mayStand d b k = cond (namesBlock d b) (cloudCovers d (blockLabel d b) k && pinAllows (block d b .pin) k) (eqb k 0)
 
 -- the clouds that position b may have, and the sixteen positions
 unfoldable pub choicesOf : Description → ℕ → List ℕ

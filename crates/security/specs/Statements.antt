@@ -1,4 +1,4 @@
--- What a placement must be, from the scope's rules themselves: plain orders and equations, and no test that the definitions use.
+-- What a placement must be, from the scope's rules themselves: equations and the order of labels, and no test that the definitions use.
 use Prim.Native.Nat.{ℕ, _≤_, _<_}
 use mathlib.Core.Path.{_≡_}
 use mathlib.Core.Logic.{_⊎_}
@@ -10,14 +10,14 @@ use Rattle.description.specs.declared.workflow.Way.the-variants.{Reads, Writes}
 use Rattle.description.specs.declared.workflow.Edge.{Edge}
 use Rattle.description.specs.declared.workflow.Pair.{Pair}
 use Rattle.description.specs.Format.{Description, block, edge, pair}
-use Rattle.security.specs.Soundness.{blockLevel, cloudLevel}
+use Rattle.labels.specs.Labels.{Covers}
+use Rattle.security.specs.Soundness.{blockLabel, cloudLabel}
 use Rattle.security.specs.Placements.{serviceCloud, datumCloud}
 
--- Block b may stand on cloud k: k is declared, its level is at least the block's (rule 7), and the block's pin, if it has one, is
--- to k.
+-- Block b may stand on cloud k: k is declared, its label covers the block's (rule 7), and the block's pin, if it has one, is to k.
 pub record Stands (d : Description) (b k : ℕ) : Type 0 where
   pub declared : k < length (d .clouds)
-  pub rule7 : blockLevel d b ≤ cloudLevel d k
+  pub rule7 : Covers (cloudLabel d k) (blockLabel d b)
   pub pin : (c : ℕ) → block d b .pin ≡ To c → c ≡ k
 
 -- Position b is good: its block stands where it may, and past the last block there is 0.
@@ -29,16 +29,16 @@ pub record Good (d : Description) (p : List ℕ) (b : ℕ) : Type 0 where
 abbrev pub Placed : Description → List ℕ → Type 0
 Placed d p = (b : ℕ) → b < 16 → Good d p b
 
--- An edge keeps the rule for its way, 16 for reads and 17 for writes: where the service is not on the datum's cloud, the service's
--- cloud, which gets a copy, has at least the datum's level.
+-- An edge keeps the rule for its way, 16 for reads and 17 for writes: where the service is not on the datum's cloud, the label of the
+-- service's cloud, which gets a copy, covers the datum's.
 abbrev pub Keeps : Way → Description → List ℕ → Edge → Type 0
-Keeps way d p e = e .way ≡ way → (serviceCloud p e ≡ datumCloud p e → ⊥) → blockLevel d (e .datum) ≤ cloudLevel d (serviceCloud p e)
+Keeps way d p e = e .way ≡ way → (serviceCloud p e ≡ datumCloud p e → ⊥) → Covers (cloudLabel d (serviceCloud p e)) (blockLabel d (e .datum))
 
--- it breaks the rule
+-- It breaks the rule: the label is not covered. It need not be higher.
 pub record Breaks (way : Way) (d : Description) (p : List ℕ) (e : Edge) : Type 0 where
   pub goes : e .way ≡ way
   pub moves : serviceCloud p e ≡ datumCloud p e → ⊥
-  pub exposes : cloudLevel d (serviceCloud p e) < blockLevel d (e .datum)
+  pub exposes : Covers (cloudLabel d (serviceCloud p e)) (blockLabel d (e .datum)) → ⊥
 
 abbrev pub AllKeep : Way → Description → List ℕ → Type 0
 AllKeep way d p = (n : ℕ) → n < length (d .edges) → Keeps way d p (edge d n)

@@ -1,28 +1,35 @@
 // Judging one placement.
 ghost use mathlib.Core.Path.{_≡_};
+ghost use mathlib.Core.Bool.{not, _&&_, cond};
 ghost use Prim.Native.Nat.{_<_};
+ghost use lib.Dec.{ltb, eqb};
 ghost use lib.ListN.{getD};
+ghost use Rattle.sequences.specs.Bits.{bit};
 ghost use Rattle.sequences.specs.Lists.{first};
 ghost use Rattle.description.specs.Meaning.{describes};
 ghost use Rattle.security.specs.Answers.{foundIn, breaksRule, judgeAnswer};
+ghost use Rattle.security.specs.Masks.{masksOf};
 ghost use Rattle.security.specs.Soundness.{positions};
 ghost use Rattle.security.specs.Placements.{moves, exposes, breaks16, breaks17, badPosition, judge};
 use crate::answers::Found;
 use crate::answers::Rule;
 use crate::answers::Verdict;
 use crate::apart::first_broken;
+use crate::masks::MASK_BITS;
+use crate::masks::Masks;
+use crate::masks::POSITIONS;
 use crate::soundness::breaks_rule3;
 use crate::soundness::breaks_rule4;
-use crate::soundness::covers;
-use crate::soundness::may_stand;
 use description::decode::is_write;
 use description::words::Words;
 use description::workflow::Edge;
 use description::workflow::Refusal;
 use description::workflow::block_at;
+use description::workflow::block_count;
 use description::workflow::cloud_at;
 use description::workflow::edge_at;
 use description::workflow::edge_count;
+use labels::covers;
 use sequences::wide;
 
 // The numbers that a placement is refused with.
@@ -51,7 +58,7 @@ pub fn moves(placement: [u8; 16], e: Edge) -> bool
     cloud_of(placement, wide(e.service)) != cloud_of(placement, wide(e.datum))
 }
 
-// The edge makes a copy on a cloud below the datum's level.
+// The edge makes a copy on a cloud whose label does not cover the datum's.
 fn exposes(w: &Words, placement: [u8; 16], e: Edge) -> bool
     ensures { λ r. ⌜ r ≡ exposes (describes (now (w .entry))) placement e ⌝ }
 {
@@ -60,7 +67,7 @@ fn exposes(w: &Words, placement: [u8; 16], e: Edge) -> bool
     }
     let cloud = cloud_at(w, wide(cloud_of(placement, wide(e.service))));
     let datum = block_at(w, wide(e.datum));
-    !covers(cloud.level, datum.level)
+    !covers(cloud.label, datum.label)
 }
 
 fn breaks_rule16(w: &Words, placement: [u8; 16], e: Edge) -> bool
@@ -109,18 +116,28 @@ pub fn first_breaking(w: &Words, placement: [u8; 16], rule: Rule) -> Found
     Found::Nothing
 }
 
-fn is_bad(w: &Words, placement: [u8; 16], b: usize) -> bool
-    ensures { λ r. ⌜ r ≡ badPosition (describes (now (w .entry))) placement b ⌝ }
+// Position b has cloud k and may not have it: for a block, bit k of its byte m is not set; past the last of the n blocks, k is not 0. The byte is
+// passed by value: of one that lies in a lent array it is not known that it is less than 256.
+fn is_bad(n: usize, m: u8, b: usize, k: u8) -> bool
+    ensures { λ r. ⌜ r ≡ not (cond (ltb b n) (ltb k 8 && bit m k) (eqb k 0)) ⌝ }
 {
-    !may_stand(w, b, wide(cloud_of(placement, b)))
+    if n <= b {
+        return k != 0;
+    }
+    if MASK_BITS <= k {
+        return true;
+    }
+    (m >> k) % 2 != 1
 }
 
-fn first_bad_position(w: &Words, placement: [u8; 16]) -> Found
+fn first_bad_position(w: &Words, masks: &Masks, placement: [u8; 16]) -> Found
+    requires { ⌜ now masks ≡ masksOf (describes (now w)) ⌝ }
     ensures { λ r. ⌜ foundIn r ≡ first (badPosition (describes (now (w .entry))) placement) positions ⌝ }
 {
+    let n = block_count(w);
     let mut b = 0;
-    while b < 16 {
-        if is_bad(w, placement, b) {
+    while b < POSITIONS {
+        if is_bad(n, masks[b], b, placement[b]) {
             return Found::At(b);
         }
         b += 1;
@@ -135,10 +152,11 @@ fn unfit(number: u8, place: usize) -> Verdict
 }
 
 // Positions first, then rule 16, then rule 17 and then the pairs.
-pub fn verdict(w: &Words, placement: [u8; 16]) -> Verdict
+pub fn verdict(w: &Words, masks: &Masks, placement: [u8; 16]) -> Verdict
+    requires { ⌜ now masks ≡ masksOf (describes (now w)) ⌝ }
     ensures { λ r. ⌜ judgeAnswer r ≡ judge (describes (now (w .entry))) placement ⌝ }
 {
-    let position = first_bad_position(w, placement);
+    let position = first_bad_position(w, masks, placement);
     if let Found::At(b) = position {
         return unfit(BAD_POSITION, b);
     }

@@ -4,12 +4,13 @@ use std::fmt::Debug;
 
 use panel::{Cursor, Placement as Placed, calls as engine};
 use reference::calls::{self as by_definition, Census, ROW_WORDS, SCRATCH_WORDS};
-use reference::description::{Description, Refusal, read};
+use reference::description::{Description, Refusal, decode, read};
 use reference::random::Random;
 use reference::rules::{Placement, Priced, Row};
 
 use crate::copies::Turned;
 use crate::generate::Kind;
+use crate::labels::{self, Marked, for_a_mark};
 use crate::lent::{Checked, Lent};
 use crate::mask;
 use crate::operands::{cursor, placement, room, rooms};
@@ -107,6 +108,7 @@ impl<'a> Input<'a> {
     /// walk over all candidates are to be made.
     fn prepare(&mut self) -> bool {
         let Ok(described) = &self.described else {
+            self.tally_refusal();
             return true;
         };
         let candidates = described.candidate_count();
@@ -128,8 +130,19 @@ impl<'a> Input<'a> {
             ("three amounts", self.rows.iter().any(has_three_amounts)),
             ("half charged", pays_half),
         ];
+        let labels = labels::seen_in(described);
         self.show(&shown);
+        self.show(&labels);
         walks
+    }
+
+    /// Counts the refusal of the description, if a mark alone is missing.
+    fn tally_refusal(&mut self) {
+        if let (Err(refusal), Ok(described)) = (&self.described, decode(self.text.get()))
+            && let Some(name) = for_a_mark(&described, *refusal, &[0; 16])
+        {
+            self.tally.shown(name);
+        }
     }
 
     /// Counts what holds of the description.
@@ -188,6 +201,11 @@ impl<'a> Input<'a> {
     fn judge(&mut self) -> Agreed {
         let placement = self.placement();
         let judged = self.described().and_then(|d| d.judge(&placement));
+        if let (Ok(described), Err(refusal)) = (&self.described, judged)
+            && let Some(name) = for_a_mark(described, refusal, &placement)
+        {
+            self.tally.shown(name);
+        }
         let case = Case {
             call: Call::Judge,
             operands: &placement,
@@ -273,11 +291,15 @@ impl<'a> Input<'a> {
     fn census(&mut self) -> Agreed {
         let mut figures = Lent::<u64>::new(self.random, 6);
         let (mut shown, mut turned) = (Vec::new(), Turned::default());
+        let mut marked = Marked::default();
         let reference = self.described().map(|described| {
             let c = described.census(&self.rows);
             shown = seen_in_census(described, &c);
             if c.options < c.secure {
                 turned = Turned::of(described, &self.rows);
+            }
+            if labels::has_marks(described) {
+                marked = Marked::of(described, &self.rows, QUICK);
             }
             figures.expect(&[
                 c.candidates,
@@ -292,6 +314,8 @@ impl<'a> Input<'a> {
         self.show(&shown);
         self.tally.shown_times(TURNED, turned.rows);
         self.tally.shown_times(TURNED_AT_EQUAL_COST, turned.tied);
+        self.tally.shown_times(labels::TAKEN, marked.taken);
+        self.tally.shown_times(labels::NEEDING, marked.needing);
         let library = engine::census(self.text.get(), figures.lend_array());
         let case = Case {
             call: Call::Census,

@@ -1,8 +1,9 @@
 //! Descriptions of every kind: sound, at a boundary, damaged, and bytes at random.
 
+use reference::label::{EMBARGO, HIGHEST, SOURCE};
 use reference::random::Random;
 
-use crate::text::{APART, Plan, READS, Text, WRITES, commands};
+use crate::text::{APART, Plan, READS, SERVICE, Text, WRITES, cleared_for, commands, some_marks};
 
 #[derive(Clone, Copy, PartialEq, Eq, PartialOrd, Ord, Debug)]
 pub enum Kind {
@@ -32,6 +33,7 @@ fn sound(random: &mut Random) -> Vec<u8> {
         pairs: random.pick(&[0, 0, 1, 1, 2]),
         candidates: random.pick(&[8, 16, 32, 64, 64, 256]),
         highest: random.pick(&[0, 1, 1, 2, 3, 15]),
+        marks: some_marks(random),
         lawless: 40,
         shuffled: random.one_in(4),
     };
@@ -46,14 +48,21 @@ fn pipe(random: &mut Random) -> Vec<u8> {
     let mut level = |from: usize| random.below(levels[from]) as u8;
     let clouds: Vec<u8> = (0..clouds).map(|_| level(0)).collect();
     let blocks: Vec<u8> = (0..length).map(|_| level(1)).collect();
+    let marks = some_marks(random);
+    let clouds = clouds.into_iter().map(|level| level | random.pick(marks));
+    let clouds: Vec<u8> = clouds.collect();
     let more_readers = random.pick(&[0, 0, 1]);
     let kept_apart = random.pick(&[false, false, true]);
     let brief = random.one_in(2);
     let mut text = Text::new(random);
-    for level in clouds {
-        text.cloud(level);
+    for label in clouds {
+        text.cloud(label);
     }
-    services_and_data(&mut text, &blocks, brief);
+    let blocks = blocks
+        .into_iter()
+        .map(|level| level | text.block_marks(marks));
+    let blocks: Vec<u8> = blocks.collect();
+    services_and_data(&mut text, &blocks, cleared_for(marks), brief);
     for _ in 0..more_readers {
         text.edge(READS, true);
     }
@@ -68,15 +77,15 @@ fn pipe(random: &mut Random) -> Vec<u8> {
 
 /// Service, datum, service, datum: each datum written by the service before it and read by the one
 /// behind it.
-fn services_and_data(text: &mut Text, levels: &[u8], brief: bool) {
-    for (block, &level) in levels.iter().enumerate() {
+fn services_and_data(text: &mut Text, labels: &[u8], clearance: u8, brief: bool) {
+    for (block, &label) in labels.iter().enumerate() {
         match (block % 2, brief) {
-            (0, _) => text.service(0, 15),
-            (_, false) => text.datum(level),
-            (_, true) => text.brief_datum(level),
+            (0, _) => text.service(0, clearance),
+            (_, false) => text.datum(label),
+            (_, true) => text.brief_datum(label),
         }
     }
-    let length = levels.len() as u8;
+    let length = labels.len() as u8;
     for datum in (1..length).step_by(2) {
         text.link([WRITES, datum - 1, datum], true);
         if datum + 1 < length {
@@ -91,16 +100,17 @@ fn boundary(random: &mut Random) -> Vec<u8> {
         1 => many_clouds(random),
         2 => many_blocks(random),
         3 => many_edges(random),
-        4 | 5 => high_levels(random),
+        4 => high_labels(random),
+        5 => other_marks(random),
         6 => many_pairs(random),
         7 => odd_pairs(random),
-        8 => mixed_levels(random),
+        8 => mixed_labels(random),
         9 => two_of_eight(random),
         _ => many_candidates(random),
     }
 }
 
-fn calm_plan(clouds: usize, blocks: usize) -> Plan {
+fn calm_plan(random: &mut Random, clouds: usize, blocks: usize) -> Plan {
     Plan {
         clouds,
         blocks,
@@ -109,6 +119,7 @@ fn calm_plan(clouds: usize, blocks: usize) -> Plan {
         pairs: 0,
         candidates: 64,
         highest: 2,
+        marks: some_marks(random),
         lawless: 1000,
         shuffled: false,
     }
@@ -117,31 +128,37 @@ fn calm_plan(clouds: usize, blocks: usize) -> Plan {
 /// No cloud, or no block, or neither.
 fn without_some(random: &mut Random) -> Vec<u8> {
     let [clouds, blocks] = random.pick(&[[0, 0], [0, 2], [1, 0], [8, 0]]);
-    Text::new(random).by(&calm_plan(clouds, blocks))
+    let plan = calm_plan(random, clouds, blocks);
+    Text::new(random).by(&plan)
 }
 
 /// Eight clouds, or one too many.
 fn many_clouds(random: &mut Random) -> Vec<u8> {
-    let plan = calm_plan(random.pick(&[8, 8, 9]), 1 + random.below(3));
+    let [clouds, blocks] = [random.pick(&[8, 8, 9]), 1 + random.below(3)];
+    let plan = calm_plan(random, clouds, blocks);
     Text::new(random).by(&plan)
 }
 
 /// Sixteen blocks, or one too many.
 fn many_blocks(random: &mut Random) -> Vec<u8> {
-    let plan = calm_plan(1 + random.below(3), random.pick(&[16, 16, 17]));
+    let [clouds, blocks] = [1 + random.below(3), random.pick(&[16, 16, 17])];
+    let plan = calm_plan(random, clouds, blocks);
     Text::new(random).by(&plan)
 }
 
 /// Thirty-two edges, or one too many; all services may read and write all data.
 fn many_edges(random: &mut Random) -> Vec<u8> {
     let edges = random.pick(&[31, 32, 32, 33]);
+    let marks = some_marks(random);
+    let clouds = [0, 1].map(|level| level | random.pick(marks));
     let mut text = Text::new(random);
-    for level in [0, 1] {
-        text.cloud(level);
+    for label in clouds {
+        text.cloud(label);
     }
     for _ in 0..8 {
-        text.service(0, 15);
-        text.datum(0);
+        text.service(0, cleared_for(marks));
+        let label = text.block_marks(marks);
+        text.datum(label);
     }
     for _ in 0..edges {
         text.edge(READS, true);
@@ -152,20 +169,22 @@ fn many_edges(random: &mut Random) -> Vec<u8> {
 
 /// Eight pairs, or one too many, of enough data.
 fn many_pairs(random: &mut Random) -> Vec<u8> {
+    let [clouds, blocks] = [random.pick(&[2, 3, 4, 8]), 10 + random.below(6)];
     let plan = Plan {
         edges: random.below(3),
         pairs: random.pick(&[8, 8, 9]),
         highest: random.pick(&[0, 0, 1]),
-        ..calm_plan(random.pick(&[2, 3, 4, 8]), 10 + random.below(6))
+        ..calm_plan(random, clouds, blocks)
     };
     Text::new(random).by(&plan)
 }
 
 /// A pair more that names a datum twice, a service, what is not declared, or a pair that is there.
 fn odd_pairs(random: &mut Random) -> Vec<u8> {
+    let blocks = 6 + random.below(6);
     let plan = Plan {
         pairs: random.pick(&[1, 2, 7, 8]),
-        ..calm_plan(2, 6 + random.below(6))
+        ..calm_plan(random, 2, blocks)
     };
     let mut text = Text::new(random).by(&plan);
     let pairs: Vec<[u8; 2]> = commands(&text)
@@ -190,18 +209,36 @@ fn odd_pairs(random: &mut Random) -> Vec<u8> {
     text
 }
 
-/// One level, location or clearance is 15 or 16.
-fn high_levels(random: &mut Random) -> Vec<u8> {
+/// Where some label, location or clearance of the text is, if it has one.
+fn some_label(random: &mut Random, text: &[u8]) -> Option<usize> {
+    let labelled = commands(text).into_iter().filter(|c| text[c.start] <= 3);
+    let starts: Vec<usize> = labelled.map(|command| command.start).collect();
+    if starts.is_empty() {
+        return None;
+    }
+    let start = random.pick(&starts);
+    let operands = if text[start] == SERVICE { 2 } else { 1 };
+    Some(start + 1 + random.below(operands))
+}
+
+/// One label, location or clearance is the highest that there is, or above it.
+fn high_labels(random: &mut Random) -> Vec<u8> {
     let mut text = sound(random);
-    let levelled = commands(&text).into_iter().filter(|c| text[c.start] <= 3);
-    let starts: Vec<usize> = levelled.map(|command| command.start).collect();
-    if !starts.is_empty() {
-        let start = random.pick(&starts);
-        let operand = match text[start] {
-            3 => 1 + random.below(2),
-            _ => 1,
+    if let Some(at) = some_label(random, &text) {
+        let above = [HIGHEST + 1, HIGHEST + 2, 79, 127, 128, 255];
+        text[at] = match random.below(4) {
+            0 => HIGHEST,
+            _ => random.pick(&above),
         };
-        text[start + operand] = random.pick(&[15, 16, 17, 255]);
+    }
+    text
+}
+
+/// One label, location or clearance has a mark more or less.
+fn other_marks(random: &mut Random) -> Vec<u8> {
+    let mut text = sound(random);
+    if let Some(at) = some_label(random, &text) {
+        text[at] ^= random.pick(&[EMBARGO, SOURCE]);
     }
     text
 }
@@ -220,21 +257,24 @@ const FACTORS: [&[u8]; 10] = [
     &[8; 16],                        // 2^48
 ];
 
-/// Eight clouds of levels 0 to 7, so that a block of level v may use 8 - v of them.
+/// Eight clouds of levels 0 to 7, so that a block of level v may use 8 - v of them; all have the same
+/// marks, and blocks have these or none.
 fn many_candidates(random: &mut Random) -> Vec<u8> {
     let mut factors = random.pick(&FACTORS).to_vec();
     random.shuffle(&mut factors);
     let fits_nowhere = random.one_in(10);
     let pairs = random.pick(&[0, 0, 1, 2]);
+    let marks = random.pick(&[0, 0, EMBARGO, SOURCE, EMBARGO | SOURCE]);
     let mut text = Text::new(random);
     for level in 0..8 {
-        text.cloud(level);
+        text.cloud(level | marks);
     }
     for (block, factor) in factors.into_iter().enumerate() {
+        let label = (8 - factor) | text.block_marks(&[0, marks]);
         if block % 3 == 0 {
-            text.service(8 - factor, 15);
+            text.service(label, cleared_for(&[marks]));
         } else {
-            text.datum(8 - factor);
+            text.datum(label);
         }
     }
     if fits_nowhere {
@@ -250,31 +290,43 @@ fn many_candidates(random: &mut Random) -> Vec<u8> {
 }
 
 /// Five clouds or more, so that those that a block may use lie apart, and up to sixteen blocks.
-fn mixed_levels(random: &mut Random) -> Vec<u8> {
+fn mixed_labels(random: &mut Random) -> Vec<u8> {
+    let [clouds, blocks] = [5 + random.below(4), 1 + random.below(16)];
     let plan = Plan {
         pins: random.below(4),
         candidates: random.pick(&[64, 256]),
         highest: random.pick(&[1, 1, 2, 3, 15]),
-        ..calm_plan(5 + random.below(4), 1 + random.below(16))
+        ..calm_plan(random, clouds, blocks)
     };
     Text::new(random).by(&plan)
 }
 
-/// Sixteen blocks for which two of eight clouds are high enough: 65,536 candidates, or too many
-/// with one block that may stand anywhere.
+/// A label, and one that does not cover it: by its level, by a mark, by one of two.
+const COVERED_AND_NOT: [[u8; 2]; 6] = [
+    [1, 0],
+    [1, EMBARGO | SOURCE],
+    [EMBARGO, 15],
+    [SOURCE, 15 | EMBARGO],
+    [1 | EMBARGO, EMBARGO],
+    [EMBARGO | SOURCE, 15 | SOURCE],
+];
+
+/// Sixteen blocks that two of eight clouds cover: 65,536 candidates, or too many with one block that
+/// may stand anywhere.
 fn two_of_eight(random: &mut Random) -> Vec<u8> {
-    let mut levels = [1, 1, 0, 0, 0, 0, 0, 0];
-    random.shuffle(&mut levels);
-    let last = u8::from(!random.one_in(4));
+    let [label, not] = random.pick(&COVERED_AND_NOT);
+    let mut clouds = [label, label, not, not, not, not, not, not];
+    random.shuffle(&mut clouds);
+    let last = if random.one_in(4) { 0 } else { label };
     let mut text = Text::new(random);
-    for level in levels {
-        text.cloud(level);
+    for label in clouds {
+        text.cloud(label);
     }
     for _ in 0..7 {
-        text.service(1, 15);
-        text.datum(1);
+        text.service(label, cleared_for(&[label]));
+        text.datum(label);
     }
-    text.service(1, 15);
+    text.service(label, cleared_for(&[label]));
     text.datum(last);
     for way in [READS, WRITES, READS, WRITES] {
         text.edge(way, false);
@@ -354,7 +406,7 @@ fn repeat_command(random: &mut Random, text: &mut Vec<u8>) {
 fn telling_byte(random: &mut Random) -> u8 {
     match random.below(3) {
         0 => random.byte(),
-        1 => random.pick(&[7, 8, 9, 15, 16, 17, 31, 32, 255]),
+        1 => random.pick(&[7, 8, 9, 15, 16, 17, 31, 32, 48, 63, 64, 255]),
         _ => random.below(8) as u8,
     }
 }
@@ -370,7 +422,7 @@ fn garbage(random: &mut Random) -> Vec<u8> {
         1..8 => random.below(3),
         _ => random.below(60),
     };
-    let highest = random.pick(&[2, 8, 8, 16, 256]);
+    let highest = random.pick(&[2, 8, 8, 16, 64, 256]);
     (0..length).map(|_| random.below(highest) as u8).collect()
 }
 
@@ -378,8 +430,10 @@ fn garbage(random: &mut Random) -> Vec<u8> {
 mod tests {
     use super::*;
     use crate::copies::Turned;
+    use crate::labels;
     use crate::mask::has_gap;
-    use reference::description::read;
+    use reference::description::{decode, read};
+    use std::collections::BTreeMap;
 
     /// What the reference says of so many texts: how many clouds, blocks, edges, candidates and
     /// pairs, or the number of the refusal.
@@ -449,8 +503,45 @@ mod tests {
         let pairs = seen(many_pairs, 100);
         assert!(pairs.contains(&Err(4)));
         assert!(pairs.iter().flatten().any(|counts| counts[4] == 8));
-        assert!(seen(high_levels, 300).contains(&Err(5)));
+        let labels = seen(high_labels, 300);
+        assert!(labels.contains(&Err(5)));
+        assert!(labels.iter().any(Result::is_ok));
         assert_eq!(seen(without_some, 20), [Err(8); 20]);
+    }
+
+    /// Of the sound texts a good part has no marks, one kind of them, and both.
+    #[test]
+    fn sound_texts_have_marks_or_none() {
+        let mut random = Random::new(1);
+        let mut shown: BTreeMap<&str, u32> = BTreeMap::new();
+        for _ in 0..1000 {
+            if let Ok(described) = read(&sound(&mut random)) {
+                for (name, holds) in labels::seen_in(&described) {
+                    *shown.entry(name).or_default() += u32::from(holds);
+                }
+            }
+        }
+        assert!(shown.values().all(|&times| times > 60), "{shown:?}");
+    }
+
+    /// A mark more or less is what many of these descriptions are refused for, by each of the rules.
+    #[test]
+    fn other_marks_break_the_rules() {
+        let mut random = Random::new(1);
+        let mut shown: BTreeMap<&str, u32> = BTreeMap::new();
+        for _ in 0..3000 {
+            let text = other_marks(&mut random);
+            if let (Err(refusal), Ok(described)) = (read(&text), decode(&text)) {
+                let name = labels::for_a_mark(&described, refusal, &[0; 16]);
+                *shown.entry(name.unwrap_or("another")).or_default() += 1;
+            }
+        }
+        for name in ["9 for a mark", "10 for a mark", "11 for a mark"] {
+            assert!(
+                shown.get(name).is_some_and(|&times| times > 30),
+                "{shown:?}"
+            );
+        }
     }
 
     #[test]
@@ -492,7 +583,7 @@ mod tests {
     #[test]
     fn clouds_lie_apart() {
         let mut random = Random::new(1);
-        let mut masks = || read(&mixed_levels(&mut random)).map(|described| described.masks());
+        let mut masks = || read(&mixed_labels(&mut random)).map(|described| described.masks());
         let seen: Vec<[u8; 16]> = (0..500).filter_map(|_| masks().ok()).collect();
         let apart = seen.as_flattened().iter().filter(|&&mask| has_gap(mask));
         assert!(apart.count() > 500);

@@ -7,11 +7,13 @@
 //! So many calls, or so many seconds: `differential 100000 1`, `differential 60s 1`. One seed gives
 //! the same input every time. It prints what was tried and how it was answered. It fails at the
 //! first difference, which it prints with its input, and it fails if a number that a call can
-//! refuse with was never seen, or no row that the price of copies decides.
+//! refuse with was never seen, or no row that the price of copies decides, or no refusal or option
+//! that a mark decides.
 
 mod compare;
 mod copies;
 mod generate;
+mod labels;
 mod lent;
 mod mask;
 mod operands;

@@ -1,6 +1,7 @@
 //! What masks show, beside the description that they are of.
 
 use reference::description::{Block, Description};
+use reference::label::Label;
 
 /// What the masks of a description are counted as.
 pub fn kind_of(described: &Description, masks: &[u8; 16]) -> &'static str {
@@ -23,14 +24,14 @@ pub fn seen_in(described: &Description, masks: &[u8; 16]) -> Vec<(&'static str, 
         blocks.any(|(block, &mask)| holds(block, mask))
     };
     let would_do = |block: &Block| {
-        let levels = described.clouds.iter().map(|cloud| cloud.level);
-        levels.filter(|&level| level >= block.level).count()
+        let labels = described.clouds.iter().map(|cloud| cloud.label);
+        labels.filter(|label| label.covers(block.label)).count()
     };
     vec![
         ("mask of 8 clouds", any(&|_, mask| mask == 255)),
         ("mask with a gap", any(&|_, mask| has_gap(mask))),
         (
-            "no cloud by level",
+            "no cloud by label",
             any(&|block, mask| block.pin.is_none() && mask == 0),
         ),
         (
@@ -42,8 +43,8 @@ pub fn seen_in(described: &Description, masks: &[u8; 16]) -> Vec<(&'static str, 
             any(&|block, mask| block.pin.is_some() && mask != 0 && would_do(block) > 1),
         ),
         (
-            "undeclared cloud at level 0",
-            any(&|block, _| clouds < 8 && block.pin.is_none() && block.level == 0),
+            "undeclared cloud for label 0",
+            any(&|block, _| clouds < 8 && block.pin.is_none() && Some(block.label) == Label::of(0)),
         ),
         (
             "16 blocks of 2 in 8 clouds",
@@ -63,14 +64,14 @@ mod tests {
     use super::*;
     use reference::description::read;
 
-    /// Clouds of these levels; then data, each with its level and maybe a pin.
-    fn described(levels: &[u8], data: &[(u8, Option<u8>)]) -> Description {
+    /// Clouds of these labels; then data, each with its label and maybe a pin.
+    fn described(labels: &[u8], data: &[(u8, Option<u8>)]) -> Description {
         let mut text = Vec::new();
-        for &level in levels {
-            text.extend([1, level, 0, 0, 0, 0, 0, 0, 0, 0]);
+        for &label in labels {
+            text.extend([1, label, 0, 0, 0, 0, 0, 0, 0, 0]);
         }
-        for &(level, _) in data {
-            text.extend([2, level, 0, 0, 0, 0]);
+        for &(label, _) in data {
+            text.extend([2, label, 0, 0, 0, 0]);
         }
         for (block, &(_, pin)) in (0..).zip(data) {
             text.extend(pin.map(|cloud| [6, block, cloud]).into_iter().flatten());
@@ -112,7 +113,7 @@ mod tests {
             seen(&described(&[1, 0, 1], &[(1, None), free])),
             (
                 "some clouds",
-                vec!["mask with a gap", "undeclared cloud at level 0"]
+                vec!["mask with a gap", "undeclared cloud for label 0"]
             )
         );
         assert_eq!(
@@ -137,7 +138,12 @@ mod tests {
         );
         assert_eq!(
             seen(&described(&levels, &[(2, None)])),
-            ("a block nowhere", vec!["no cloud by level"])
+            ("a block nowhere", vec!["no cloud by label"])
+        );
+        // A mark is no level, and a level is no mark.
+        assert_eq!(
+            seen(&described(&[15, 16 | 1], &[(16 | 2, None)])),
+            ("a block nowhere", vec!["no cloud by label"])
         );
     }
 }

@@ -5,6 +5,7 @@ use std::ops::RangeInclusive;
 use std::time::Duration;
 
 use crate::generate::Kind;
+use crate::labels::{FOR_A_MARK, NEEDING, TAKEN};
 
 #[derive(Clone, Copy, PartialEq, Eq, PartialOrd, Ord, Debug)]
 pub enum Call {
@@ -94,7 +95,8 @@ impl Tally {
         self.refusals.get(&(call, number)).copied().unwrap_or(0)
     }
 
-    /// What should have been seen and was not: refusals, and rows that the price of copies decides.
+    /// What should have been seen and was not: refusals, rows that the price of copies decides,
+    /// refusals and options that a mark decides.
     pub fn missing(&self) -> Vec<String> {
         let due = Call::ALL
             .into_iter()
@@ -102,11 +104,13 @@ impl Tally {
         let refusals = due
             .filter(|&(call, number)| self.refusals_of(call, number) == 0)
             .map(|(call, number)| format!("{call:?} {number}"));
-        let turned = [TURNED, TURNED_AT_EQUAL_COST]
+        let for_a_mark = FOR_A_MARK.into_iter().map(|(_, name)| name);
+        let traits = [TURNED, TURNED_AT_EQUAL_COST, TAKEN, NEEDING]
             .into_iter()
+            .chain(for_a_mark)
             .filter(|name| self.traits.get(name).is_none_or(|&times| times == 0))
             .map(str::to_string);
-        refusals.chain(turned).collect()
+        refusals.chain(traits).collect()
     }
 
     pub fn print(&self, seed: u64, taken: Duration) {

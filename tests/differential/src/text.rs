@@ -2,16 +2,46 @@
 
 use std::ops::Range;
 
+use reference::label::{EMBARGO, Label, SOURCE};
 use reference::random::Random;
 
 const END: u8 = 0;
 const CLOUD: u8 = 1;
 const DATUM: u8 = 2;
-const SERVICE: u8 = 3;
+pub const SERVICE: u8 = 3;
 pub const READS: u8 = 4;
 pub const WRITES: u8 = 5;
 const PIN: u8 = 6;
 pub const APART: u8 = 7;
+
+const BOTH: u8 = EMBARGO | SOURCE;
+const HIGHEST_LEVEL: u8 = 15;
+
+/// The marks that the labels of a description have, each of them one of the same few: no mark at all
+/// on a good part of the descriptions.
+const MARKS: [&[u8]; 12] = [
+    &[0],
+    &[0],
+    &[0],
+    &[0],
+    &[EMBARGO],
+    &[SOURCE],
+    &[BOTH],
+    &[0, EMBARGO],
+    &[0, SOURCE],
+    &[EMBARGO, SOURCE],
+    &[0, EMBARGO, SOURCE, BOTH],
+    &[0, EMBARGO, SOURCE, BOTH],
+];
+
+pub fn some_marks(random: &mut Random) -> &'static [u8] {
+    random.pick(&MARKS)
+}
+
+/// A clearance for all data with such marks.
+pub fn cleared_for(marks: &[u8]) -> u8 {
+    marks.iter().fold(HIGHEST_LEVEL, |all, mark| all | mark)
+}
 
 /// How many of each thing are to be declared, and of what kind.
 pub struct Plan {
@@ -24,6 +54,8 @@ pub struct Plan {
     pub candidates: u64,
     /// The highest level that is used.
     pub highest: u8,
+    /// What the labels have of marks.
+    pub marks: &'static [u8],
     /// Of so many services and edges one may break rules 2, 3 and 4.
     pub lawless: usize,
     pub shuffled: bool,
@@ -41,7 +73,7 @@ enum Prices {
 #[derive(Clone, Copy)]
 struct Block {
     is_datum: bool,
-    level: u8,
+    label: u8,
     clearance: u8,
     pin: Option<usize>,
 }
@@ -99,13 +131,18 @@ impl<'a> Text<'a> {
         match step {
             CLOUD => {
                 let level = self.cloud_level(level, plan.highest);
-                self.cloud(level);
+                let marks = self.random.pick(plan.marks);
+                self.cloud(level | marks);
             }
-            DATUM => self.datum(level),
+            DATUM => {
+                let marks = self.block_marks(plan.marks);
+                self.datum(level | marks);
+            }
             SERVICE => {
+                let location = level | self.location_marks(plan.marks);
                 let above = self.random.below(usize::from(plan.highest - level) + 1) as u8;
-                let clearance = if lawless { 0 } else { level + above };
-                self.service(level, clearance);
+                let clearance = self.clearance(location, level + above, plan.marks, lawless);
+                self.service(location, clearance);
             }
             PIN => self.pin_any(),
             APART => self.pair_any(),
@@ -120,6 +157,34 @@ impl<'a> Text<'a> {
             1 => highest,
             _ => level.max(self.random.below(usize::from(highest) + 1) as u8),
         }
+    }
+
+    /// Mostly marks that some cloud has, or there would seldom be a candidate.
+    pub fn block_marks(&mut self, marks: &[u8]) -> u8 {
+        let marks = self.random.pick(marks);
+        if self.clouds.is_empty() || self.random.one_in(8) {
+            return marks;
+        }
+        marks & self.random.pick(&self.clouds)
+    }
+
+    /// Where labels differ in their marks, a location often has none, so that services may write.
+    fn location_marks(&mut self, marks: &[u8]) -> u8 {
+        if marks.len() > 1 && self.random.one_in(2) {
+            return 0;
+        }
+        self.block_marks(marks)
+    }
+
+    /// A clearance of this level, mostly with all marks that labels have; a lawless one without any,
+    /// or without a level.
+    fn clearance(&mut self, location: u8, level: u8, marks: &[u8], lawless: bool) -> u8 {
+        if lawless {
+            return self.random.pick(&[0, level]);
+        }
+        let all = cleared_for(marks);
+        let more = self.random.pick(&[all, all, all, location]);
+        level | more & BOTH
     }
 
     fn number(&mut self) -> [u8; 2] {
@@ -143,30 +208,30 @@ impl<'a> Text<'a> {
         }
     }
 
-    pub fn cloud(&mut self, level: u8) {
-        self.clouds.push(level);
-        self.bytes.extend([CLOUD, level]);
+    pub fn cloud(&mut self, label: u8) {
+        self.clouds.push(label);
+        self.bytes.extend([CLOUD, label]);
         for _ in 0..4 {
             let rate = self.number();
             self.bytes.extend(rate);
         }
     }
 
-    pub fn datum(&mut self, level: u8) {
+    pub fn datum(&mut self, label: u8) {
         let [size, longevity] = [self.size(), self.number()];
-        self.datum_of(level, size, longevity);
+        self.datum_of(label, size, longevity);
     }
 
     /// A datum that is kept so briefly that the price of a copy may decide where it stands.
-    pub fn brief_datum(&mut self, level: u8) {
+    pub fn brief_datum(&mut self, label: u8) {
         let size = self.size();
         let longevity = self.random.pick(&[0u16, 0, 1, 1, 2]).to_be_bytes();
-        self.datum_of(level, size, longevity);
+        self.datum_of(label, size, longevity);
     }
 
-    fn datum_of(&mut self, level: u8, size: [u8; 2], longevity: [u8; 2]) {
-        self.block(true, level, 0);
-        self.bytes.extend([DATUM, level]);
+    fn datum_of(&mut self, label: u8, size: [u8; 2], longevity: [u8; 2]) {
+        self.block(true, label, 0);
+        self.bytes.extend([DATUM, label]);
         self.bytes.extend([size, longevity].concat());
     }
 
@@ -179,10 +244,10 @@ impl<'a> Text<'a> {
         }
     }
 
-    fn block(&mut self, is_datum: bool, level: u8, clearance: u8) {
+    fn block(&mut self, is_datum: bool, label: u8, clearance: u8) {
         self.blocks.push(Block {
             is_datum,
-            level,
+            label,
             clearance,
             pin: None,
         });
@@ -232,8 +297,8 @@ impl<'a> Text<'a> {
         let service = self.blocks[usize::from(service)];
         let datum = self.blocks[usize::from(datum)];
         match way {
-            READS => service.clearance >= datum.level,
-            _ => service.level <= datum.level,
+            READS => covers(service.clearance, datum.label),
+            _ => covers(datum.label, service.label),
         }
     }
 
@@ -289,11 +354,11 @@ impl<'a> Text<'a> {
 
     /// The clouds that a block may stand on.
     fn choices(&self, block: usize) -> Vec<usize> {
-        let Block { level, pin, .. } = self.blocks[block];
-        let clouds = 0..self.clouds.len();
-        clouds
-            .filter(|&cloud| self.clouds[cloud] >= level && pin.is_none_or(|pin| pin == cloud))
-            .collect()
+        let Block { label, pin, .. } = self.blocks[block];
+        let may_stand = |&cloud: &usize| {
+            covers(self.clouds[cloud], label) && pin.is_none_or(|pin| pin == cloud)
+        };
+        (0..self.clouds.len()).filter(may_stand).collect()
     }
 
     fn candidates(&self) -> u64 {
@@ -323,6 +388,11 @@ impl<'a> Text<'a> {
         self.bytes.push(END);
         self.bytes
     }
+}
+
+fn covers(upper: u8, lower: u8) -> bool {
+    let [upper, lower] = [upper, lower].map(|byte| Label::of(byte).expect("no byte above 63"));
+    upper.covers(lower)
 }
 
 /// Some datum's size is halfway between two whole numbers of gigabytes.

@@ -3,9 +3,11 @@
 
 use std::fmt;
 
+use crate::label::Label;
+
 #[derive(Clone, Copy)]
 pub struct Cloud {
-    pub level: u8,
+    pub label: Label,
     pub storage: u64,
     pub inward: u64,
     pub outward: u64,
@@ -15,13 +17,13 @@ pub struct Cloud {
 #[derive(Clone, Copy)]
 pub enum Kind {
     Datum { gigabytes: u64, longevity: u64 },
-    Service { clearance: u8, units: u64 },
+    Service { clearance: Label, units: u64 },
 }
 
 #[derive(Clone, Copy)]
 pub struct Block {
-    /// The level of a datum, the location of a service.
-    pub level: u8,
+    /// The label of a datum, the location of a service.
+    pub label: Label,
     pub kind: Kind,
     pub pin: Option<u8>,
 }
@@ -39,7 +41,7 @@ pub struct Edge {
     pub datum: usize,
 }
 
-#[derive(Default)]
+#[derive(Clone, Default)]
 pub struct Description {
     pub clouds: Vec<Cloud>,
     pub blocks: Vec<Block>,
@@ -73,7 +75,8 @@ pub fn read(text: &[u8]) -> Result<Description, Refusal> {
     Ok(described)
 }
 
-fn decode(text: &[u8]) -> Result<Description, Refusal> {
+/// What the bytes spell, whether or not it keeps the rules: numbers 1 to 8.
+pub fn decode(text: &[u8]) -> Result<Description, Refusal> {
     let mut described = Description::default();
     let mut at = 0;
     loop {
@@ -145,9 +148,9 @@ impl Description {
 
     fn add_cloud(&mut self, operands: &[u8]) -> Result<(), u8> {
         refuse_if(self.clouds.len() == 8, 4)?;
-        refuse_if(operands[0] > 15, 5)?;
+        let label = Label::of(operands[0]).ok_or(5)?;
         self.clouds.push(Cloud {
-            level: operands[0],
+            label,
             storage: number(&operands[1..3]),
             inward: number(&operands[3..5]),
             outward: number(&operands[5..7]),
@@ -158,29 +161,29 @@ impl Description {
 
     fn add_datum(&mut self, operands: &[u8]) -> Result<(), u8> {
         refuse_if(self.blocks.len() == 16, 4)?;
-        refuse_if(operands[0] > 15, 5)?;
+        let label = Label::of(operands[0]).ok_or(5)?;
         let kind = Kind::Datum {
             gigabytes: charged(number(&operands[1..3])),
             longevity: number(&operands[3..5]),
         };
-        self.add_block(operands[0], kind);
+        self.add_block(label, kind);
         Ok(())
     }
 
     fn add_service(&mut self, operands: &[u8]) -> Result<(), u8> {
         refuse_if(self.blocks.len() == 16, 4)?;
-        refuse_if(operands[0] > 15 || operands[1] > 15, 5)?;
+        let location = Label::of(operands[0]).ok_or(5)?;
         let kind = Kind::Service {
-            clearance: operands[1],
+            clearance: Label::of(operands[1]).ok_or(5)?,
             units: number(&operands[2..6]),
         };
-        self.add_block(operands[0], kind);
+        self.add_block(location, kind);
         Ok(())
     }
 
-    fn add_block(&mut self, level: u8, kind: Kind) {
+    fn add_block(&mut self, label: Label, kind: Kind) {
         let pin = None;
-        self.blocks.push(Block { level, kind, pin });
+        self.blocks.push(Block { label, kind, pin });
     }
 
     fn add_edge(&mut self, way: Way, operands: &[u8]) -> Result<(), u8> {

@@ -7,6 +7,7 @@
 
 pub mod calls;
 pub mod description;
+pub mod label;
 pub mod options;
 pub mod picture;
 pub mod random;

@@ -72,16 +72,17 @@ impl Description {
         let Kind::Service { clearance, .. } = self.blocks[edge.service].kind else {
             return false;
         };
-        edge.way == Way::Reads && clearance < self.blocks[edge.datum].level
+        edge.way == Way::Reads && !clearance.covers(self.blocks[edge.datum].label)
     }
 
     fn breaks_rule_4(&self, edge: &Edge) -> bool {
-        edge.way == Way::Writes && self.blocks[edge.service].level > self.blocks[edge.datum].level
+        let [service, datum] = [edge.service, edge.datum].map(|block| self.blocks[block].label);
+        edge.way == Way::Writes && !datum.covers(service)
     }
 
     /// Rule 7 and the pin.
     pub fn may_stand(&self, block: &Block, cloud: usize) -> bool {
-        self.clouds[cloud].level >= block.level
+        self.clouds[cloud].label.covers(block.label)
             && block.pin.is_none_or(|pin| usize::from(pin) == cloud)
     }
 
@@ -106,10 +107,11 @@ impl Description {
         Candidates::of(self.blocks.iter().map(|b| self.choices(b)).collect())
     }
 
-    /// The edge would leave a copy on a cloud below the datum's level: rule 16 for a read, 17 for
-    /// a write.
+    /// The edge would leave a copy on a cloud that does not cover the datum's label: rule 16 for a
+    /// read, 17 for a write.
     pub fn exposes(&self, edge: &Edge, service: usize, datum: usize) -> bool {
-        service != datum && self.clouds[service].level < self.blocks[edge.datum].level
+        let label = self.blocks[edge.datum].label;
+        service != datum && !self.clouds[service].label.covers(label)
     }
 
     /// What the edge's transfer is charged, its service and datum on these clouds.
@@ -224,7 +226,7 @@ impl Description {
 }
 
 fn breaks_rule_2(block: &Block) -> bool {
-    matches!(block.kind, Kind::Service { clearance, .. } if clearance < block.level)
+    matches!(block.kind, Kind::Service { clearance, .. } if !clearance.covers(block.label))
 }
 
 impl Edge {

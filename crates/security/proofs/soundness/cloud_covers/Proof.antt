@@ -5,10 +5,10 @@ use Prim.Native.Nat.{_≤_, _<_}
 use lib.ListN.{length}
 use borrow.Author.Tests.{lt-ltb, le-ltb}
 use Rattle.description.specs.Meaning.{describes}
-use Rattle.security.specs.Soundness.{covers}
+use Rattle.labels.specs.Labels.{covers}
 use borrow.Author.Needs.{needs}
-use Rattle.security.proofs.soundness.is_high_enough.Statement.{statement}
-use Rattle.security.proofs.soundness.is_high_enough.Tie as tie
+use Rattle.security.proofs.soundness.cloud_covers.Statement.{statement}
+use Rattle.security.proofs.soundness.cloud_covers.Tie as tie
 
 cloud-count-requires : tie.Need-cloud-count-requires
 cloud-count-requires c κs = search needs
@@ -29,8 +29,8 @@ returns-2 : tie.Need-returns-2
 returns-2 c =
     let a = c .before .before .before .before .args in
     let there : a .k < length (describes (a .w .now) .clouds) = omega arith in
-    let same = c .covers .ensures ∙ ap (λ x. covers (x .level) (a .level)) (c .before .cloud-at .ensures) in
+    let same = c .covers .ensures ∙ ap (λ x. covers (x .label) (a .label)) (c .before .cloud-at .ensures) in
     simp (lt-ltb _ _ there, same)
 
-pub is-high-enough-spec : {M : Type 1} → statement M
-is-high-enough-spec = tie.close (tie.spec cloud-count-requires returns cloud-at-requires covers-requires returns-2)
+pub cloud-covers-spec : {M : Type 1} → statement M
+cloud-covers-spec = tie.close (tie.spec cloud-count-requires returns cloud-at-requires covers-requires returns-2)
