@@ -1,5 +1,5 @@
--- Labels: what a cloud, a datum's level, a service's location and its clearance are. Bits 0 to 3 are the level, bit 4 is the embargo mark and
--- bit 5 the source mark.
+-- Labels: clouds and data have one, services have two, a location and a clearance. Bits 0 to 3 are the level, bit 4 is the embargo mark, bit 5
+-- the source mark.
 use Prim.Native.Nat.{ℕ, _%_, _≤_}
 use mathlib.Core.Path.{_≡_}
 use mathlib.Core.Bool.{Bool, true, not, _&&_, _||_, cond}
@@ -25,7 +25,7 @@ unfoldable pub covers : (high low : ℕ) → Bool
 covers high low =
     leb (levelOf low) (levelOf high) && (not (embargoed low) || embargoed high) && (not (namesSource low) || namesSource high)
 
--- the same without tests
+-- the same as an inequality and two implications
 pub record Covers (high low : ℕ) : Type 0 where
   pub level : levelOf low ≤ levelOf high
   pub embargo : embargoed low ≡ true → embargoed high ≡ true

@@ -25,7 +25,7 @@ pub const MASK_BITS: u8 = 8;
 // A byte for each position: bit k is set where the block may stand on cloud k.
 pub type Masks = [u8; POSITIONS];
 
-// No byte is it.
+// No block has it for its label, since it is no byte: none was looked at yet.
 const NO_LABEL: usize = 256;
 
 // The clouds whose labels cover this one, from the highest bit down.
