@@ -17,7 +17,7 @@ USED = re.compile(r"^use Rattle·(\w+)(?:·\w+)?\.(?:specs|proofs)\.[^{}\n]*\.\{
 UNFOLDING = re.compile(r"^( *)unfolding\b(.*(?:\n\1 +\S.*)*)", re.MULTILINE)
 COMPUTED = {"Apart.antt", "Computed.antt", "Examples.antt", "Interview.antt", "Marks.antt",
             "Reached.antt"}
-COMPUTED_TABLE = CRATES / "labels/proofs/table/Proof.antt"
+COMPUTED_TABLE = CRATES / "labels/proofs/whole_table/Proof.antt"
 
 
 def names_used(text):

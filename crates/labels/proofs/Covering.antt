@@ -3,19 +3,21 @@ use Prim.Native.Nat.{ℕ, _+_, _*_, _/_, _%_, _^_, _<_}
 use native.Mathlib.Omega.{arith}
 use mathlib.Core.Path.{_≡_, refl, sym, ap, _∙_}
 use mathlib.Core.Logic.{_↔_}
-use mathlib.Core.Bool.{Bool, true, false, not, _&&_, _||_, cond, true≢false}
+use mathlib.Core.Bool.{Bool, true, false, not, _&&_, _||_, true≢false}
 use native.Mathlib.Decide.{ℕ-discrete}
 use lib.Dec.{leb, eqb}
-use borrow.Author.Tests.{leb-true, le-leb}
+use borrow.Author.Tests.{leb-true, le-leb, eqb-true, eq-eqb, ne-eqb}
 use Rattle.sequences.specs.Bits.{bit}
-use Rattle.sequences.proofs.Bits.{bit-is, bit-off, bit-on}
+use Rattle.sequences.proofs.Bits.{bit-is, bit-off}
 use Rattle.sequences.proofs.Tests.{both-pass, not-passed}
 use Rattle.labels.specs.Labels.{levelOf, embargoed, namesSource, covers, Covers}
 
--- the test of a mark: what the one has, the other has
-mark-kept : (a b : Bool) → (not a || b ≡ true) ↔ (a ≡ true → b ≡ true)
-mark-kept true b = (λ e _. e, λ f. f refl)
-mark-kept false b = (λ e f. absurd (true≢false (sym f)), λ f. refl)
+-- the test of a mark, bit k: what the one has, the other has
+mark-kept : (high low k : ℕ) → (not (bit low k) || bit high k ≡ true) ↔ (low / 2 ^ k % 2 ≡ 1 → high / 2 ^ k % 2 ≡ 1)
+mark-kept high low k = rw (bit-is low k, bit-is high k) (elim (ℕ-discrete (low / 2 ^ k % 2) 1) [
+  | yes e ↦ rw (eq-eqb (low / 2 ^ k % 2) 1 e) (λ t _. eqb-true (high / 2 ^ k % 2) 1 t, λ f. eq-eqb (high / 2 ^ k % 2) 1 (f e))
+  | no n ↦ rw (ne-eqb (low / 2 ^ k % 2) 1 n) (λ _ e. absurd (n e), λ _. refl)
+])
 
 pub covers-is : (high low : ℕ) → (covers high low ≡ true) ↔ Covers high low
 unfolding covers
@@ -23,17 +25,10 @@ covers-is high low = (
   λ e.
       let (first, source) = both-pass _ _ .0 e in
       let (level, embargo) = both-pass _ _ .0 first in
-      record {
-        level = leb-true _ _ level;
-        embargo = mark-kept (embargoed low) (embargoed high) .0 embargo;
-        source = mark-kept (namesSource low) (namesSource high) .0 source;
-      },
+      record { level = leb-true _ _ level; embargo = mark-kept high low 4 .0 embargo; source = mark-kept high low 5 .0 source },
   λ k.
-      simp (
-        le-leb (levelOf low) (levelOf high) (k .level),
-        mark-kept (embargoed low) (embargoed high) .1 (k .embargo),
-        mark-kept (namesSource low) (namesSource high) .1 (k .source),
-      ),
+      both-pass _ _ .1
+      (both-pass _ _ .1 (le-leb _ _ (k .level), mark-kept high low 4 .1 (k .embargo)), mark-kept high low 5 .1 (k .source)),
 )
 
 -- not covered, which in a partial order is not to be below
@@ -56,35 +51,28 @@ covers-transitive x y z a b =
       source = λ e. k .source (l .source e);
     })
 
--- a bit as a number
-bit-number : (m k : ℕ) → m / 2 ^ k % 2 ≡ cond (bit m k) 1 0
-bit-number m k =
-    elim (ℕ-discrete (m / 2 ^ k % 2) 0) [
-      | yes e ↦ e ∙ sym (ap (λ (b : Bool). cond b 1 0) (bit-off m k e))
-      | no n ↦ let one : m / 2 ^ k % 2 ≡ 1 = omega (arith, n) in one ∙ sym (ap (λ (b : Bool). cond b 1 0) (bit-on m k n))
-    ]
+-- two numbers of one digit that are 1 together are the same
+same-digit : (m n : ℕ) → m < 2 → n < 2 → (m ≡ 1 → n ≡ 1) → (n ≡ 1 → m ≡ 1) → m ≡ n
+same-digit m n a b f g = elim (ℕ-discrete m 1) [
+  | yes e ↦ e ∙ sym (f e)
+  | no other ↦ let others : n ≡ 1 → ⊥ = λ e. other (g e) in omega (arith, a, b, other, others)
+]
 
--- a label, which is below 64, is made of its level and its marks
-made : (x : ℕ) → x < 64 → x ≡ levelOf x + cond (embargoed x) 1 0 * 16 + cond (namesSource x) 1 0 * 32
+-- A label, which is below 64, is made of its level and its marks. So two labels that cover each other are one.
+made : (x : ℕ) → x < 64 → x ≡ x % 16 + x / 16 % 2 * 16 + x / 32 % 2 * 32
 made x h =
-    let e : x / 16 % 2 ≡ cond (embargoed x) 1 0 = bit-number x 4 in
-    let s : x / 32 % 2 ≡ cond (namesSource x) 1 0 = bit-number x 5 in
     let q : x / 16 ≡ x / 32 * 2 + x / 16 % 2 = omega arith in
     let r : x / 32 % 2 ≡ x / 32 = omega arith in
-    omega (arith, q, r, e, s)
+    omega (arith, q, r)
 
--- so two labels that cover each other are one
 pub covers-antisymmetric : (x y : ℕ) → x < 64 → y < 64 → covers x y ≡ true → covers y x ≡ true → x ≡ y
 covers-antisymmetric x y hx hy a b =
     let k = covers-is x y .0 a in
     let l = covers-is y x .0 b in
-    let level : levelOf x ≡ levelOf y = omega (arith, k .level, l .level) in
-    made x hx ∙ rw (level, same _ _ (l .embargo) (k .embargo), same _ _ (l .source) (k .source)) (sym (made y hy))
-  where
-    same : (t u : Bool) → (t ≡ true → u ≡ true) → (u ≡ true → t ≡ true) → t ≡ u
-    same true u f g = sym (f refl)
-    same false true f g = g refl
-    same false false f g = refl
+    let level : x % 16 ≡ y % 16 = omega (arith, k .level, l .level) in
+    let embargo = same-digit (x / 16 % 2) (y / 16 % 2) (omega arith) (omega arith) (l .embargo) (k .embargo) in
+    let source = same-digit (x / 32 % 2) (y / 32 % 2) (omega arith) (omega arith) (l .source) (k .source) in
+    made x hx ∙ rw (level, embargo, source) (sym (made y hy))
 
 -- without marks a label is its level
 unmarked : (x : ℕ) → x < 16 → (levelOf x ≡ x) × (embargoed x ≡ false) × (namesSource x ≡ false)
@@ -105,17 +93,14 @@ covers-levels high low hh hl =
 low-level : (n : ℕ) → n % 64 % 16 ≡ n % 16
 low-level n = omega arith
 
+low-bit : (n k : ℕ) → n % 64 / 2 ^ k % 2 ≡ n / 2 ^ k % 2 → bit (n % 64) k ≡ bit n k
+low-bit n k e = bit-is (n % 64) k ∙ ap (λ (m : ℕ). eqb m 1) e ∙ sym (bit-is n k)
+
 low-embargo : (n : ℕ) → bit (n % 64) 4 ≡ bit n 4
-low-embargo n =
-    let q : n / 16 ≡ n / 64 * 4 + n % 64 / 16 = omega arith in
-    let e : n % 64 / 16 % 2 ≡ n / 16 % 2 = omega (arith, q) in
-    bit-is (n % 64) 4 ∙ ap (λ (m : ℕ). eqb m 1) e ∙ sym (bit-is n 4)
+low-embargo n = low-bit n 4 (let q : n / 16 ≡ n / 64 * 4 + n % 64 / 16 = omega arith in omega (arith, q))
 
 low-source : (n : ℕ) → bit (n % 64) 5 ≡ bit n 5
-low-source n =
-    let q : n / 32 ≡ n / 64 * 2 + n % 64 / 32 = omega arith in
-    let e : n % 64 / 32 % 2 ≡ n / 32 % 2 = omega (arith, q) in
-    bit-is (n % 64) 5 ∙ ap (λ (m : ℕ). eqb m 1) e ∙ sym (bit-is n 5)
+low-source n = low-bit n 5 (let q : n / 32 ≡ n / 64 * 2 + n % 64 / 32 = omega arith in omega (arith, q))
 
 pub covers-left : (high low : ℕ) → covers (high % 64) low ≡ covers high low
 unfolding covers

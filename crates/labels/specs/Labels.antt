@@ -1,8 +1,8 @@
 -- Labels: clouds and data have one, services have two, a location and a clearance. Bits 0 to 3 are the level, bit 4 is the embargo mark, bit 5
 -- the source mark.
-use Prim.Native.Nat.{ℕ, _%_, _≤_}
+use Prim.Native.Nat.{ℕ, _/_, _%_, _≤_}
 use mathlib.Core.Path.{_≡_}
-use mathlib.Core.Bool.{Bool, true, not, _&&_, _||_, cond}
+use mathlib.Core.Bool.{Bool, not, _&&_, _||_, cond}
 use lib.Dec.{ltb, leb}
 use Rattle.sequences.specs.Bits.{bit, bits}
 
@@ -25,11 +25,11 @@ unfoldable pub covers : (high low : ℕ) → Bool
 covers high low =
     leb (levelOf low) (levelOf high) && (not (embargoed low) || embargoed high) && (not (namesSource low) || namesSource high)
 
--- the same as an inequality and two implications
+-- The same in numbers, and with none of the tests: bits 4 and 5 are what is left of 16 and of 32.
 pub record Covers (high low : ℕ) : Type 0 where
-  pub level : levelOf low ≤ levelOf high
-  pub embargo : embargoed low ≡ true → embargoed high ≡ true
-  pub source : namesSource low ≡ true → namesSource high ≡ true
+  pub level : low % 16 ≤ high % 16
+  pub embargo : low / 16 % 2 ≡ 1 → high / 16 % 2 ≡ 1
+  pub source : low / 32 % 2 ≡ 1 → high / 32 % 2 ≡ 1
 
 -- the table's entry: 1 where the row's label covers the column's
 abbrev pub entryOf : (row column : ℕ) → ℕ

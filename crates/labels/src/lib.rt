@@ -80,7 +80,7 @@ const TABLE: [u64; LABELS] = [
 ];
 
 // The table is the rule: every entry of every row.
-fn table() -> [u64; LABELS]
+fn whole_table() -> [u64; LABELS]
     ensures { λ r. ⌜ r ≡ table 64 rowOf ⌝ }
 {
     TABLE
@@ -164,7 +164,7 @@ fn row_in(rows: &[u64; LABELS], label: u8) -> u64
 fn covered_by(label: u8) -> u64
     ensures { λ r. ⌜ r ≡ rowOf label ⌝ }
 {
-    let rows = table();
+    let rows = whole_table();
     row_in(&rows, label % 64)
 }
 

@@ -37,7 +37,7 @@ use Rattle.sequences.proofs.Tests.{cond-ind, both-pass}
 module _ (d : Description) where
   -- ---- one byte
 
-  pub mask-named : (b : ℕ) → b < length (d .blocks) → maskOf d b ≡ bits (mayStand d b) 0 8
+  mask-named : (b : ℕ) → b < length (d .blocks) → maskOf d b ≡ bits (mayStand d b) 0 8
   unfolding maskOf
   mask-named b h = simp (lt-ltb b (length (d .blocks)) h)
 
@@ -46,7 +46,7 @@ module _ (d : Description) where
   mask-beyond b h = simp (le-ltb b (length (d .blocks)) h)
 
   -- by its pin: all clouds that cover its label, or one of them
-  pub mask-by-pin : (b : ℕ) (pin : Pin) → b < length (d .blocks) → block d b .pin ≡ pin
+  mask-by-pin : (b : ℕ) (pin : Pin) → b < length (d .blocks) → block d b .pin ≡ pin
       → bits (λ k. cloudCovers d (blockLabel d b) k && pinAllows pin k) 0 8 ≡ maskOf d b
   mask-by-pin b pin h e =
       bits-same _ _ 0 8 (λ k _ _. ap (λ p. cloudCovers d (blockLabel d b) k && pinAllows p k) (sym e) ∙ sym (named-stands d b k h)) ∙ sym (mask-named b h)
@@ -64,7 +64,7 @@ module _ (d : Description) where
       | no n ↦ pinned-alone k n
     ]
 
-    pub pinned-bits : length (d .clouds) ≤ 8 → cond (cloudCovers d label c) (2 ^ c) 0 ≡ bits pinned 0 8
+    pinned-bits : length (d .clouds) ≤ 8 → cond (cloudCovers d label c) (2 ^ c) 0 ≡ bits pinned 0 8
     pinned-bits few = go (cloudCovers d label c) refl
       where
         go : (b : Bool) → cloudCovers d label c ≡ b → cond b (2 ^ c) 0 ≡ bits pinned 0 8

@@ -8,8 +8,8 @@ use Rattle.labels.proofs.Entries.{row-at}
 use Rattle.labels.proofs.covered_by.Statement.{statement}
 use Rattle.labels.proofs.covered_by.Tie as tie
 
-table-requires : tie.Need-table-requires
-table-requires c κs = search needs
+whole-table-requires : tie.Need-whole-table-requires
+whole-table-requires c κs = search needs
 
 row-in-requires : tie.Need-row-in-requires
 row-in-requires c κs = search needs
@@ -17,7 +17,7 @@ row-in-requires c κs = search needs
 returns : tie.Need-returns
 returns c =
     let label = c .before .before .before .args .label in
-    c .row-in .ensures ∙ ap (λ (rows : List ℕ). getD rows (label % 64) 0) (c .before .before .table .ensures) ∙ row-at label
+    c .row-in .ensures ∙ ap (λ (rows : List ℕ). getD rows (label % 64) 0) (c .before .before .whole-table .ensures) ∙ row-at label
 
 pub covered-by-spec : {M : Type 1} → statement M
-covered-by-spec = tie.close (tie.spec table-requires row-in-requires returns)
+covered-by-spec = tie.close (tie.spec whole-table-requires row-in-requires returns)

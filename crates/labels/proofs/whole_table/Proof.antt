@@ -3,12 +3,12 @@ use mathlib.Core.Path.{refl}
 use Rattle.sequences.specs.Arrays.{table}
 use Rattle.sequences.specs.Bits.{bit, bits}
 use Rattle.labels.specs.Labels.{covers, rowOf}
-use Rattle.labels.proofs.table.Statement.{statement}
-use Rattle.labels.proofs.table.Tie as tie
+use Rattle.labels.proofs.whole_table.Statement.{statement}
+use Rattle.labels.proofs.whole_table.Tie as tie
 
 returns : tie.Need-returns
 unfolding table bit bits covers rowOf
 returns c = refl
 
-pub table-spec : {M : Type 1} → statement M
-table-spec = tie.close (tie.spec returns)
+pub whole-table-spec : {M : Type 1} → statement M
+whole-table-spec = tie.close (tie.spec returns)
