@@ -5,7 +5,7 @@ use mathlib.Core.Bool.{true, false, true≢false, false≢true}
 use Rattle.description.specs.declared.workflow.Cloud.{Cloud}
 use Rattle.description.specs.declared.workflow.Kind.{Kind}
 use Rattle.description.specs.declared.workflow.Kind.the-variants.{Datum, Service}
-use Rattle.description.specs.Format.{isDatum}
+use Rattle.description.specs.Declarations.{isDatum}
 use Rattle.costs.specs.Cost.{storageOf, cpuOf}
 
 pub service-stores-nothing : (c : Cloud) (k : Kind) → isDatum k ≡ false → storageOf c k ≡ 0

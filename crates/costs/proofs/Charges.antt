@@ -12,7 +12,7 @@ use Rattle.description.specs.declared.workflow.Block.{Block}
 use Rattle.description.specs.declared.workflow.Cloud.{Cloud}
 use Rattle.description.specs.declared.workflow.Edge.{Edge}
 use Rattle.description.specs.declared.workflow.Kind.{Kind}
-use Rattle.description.specs.Format.{Description, noCloud, noBlock, cloud, block, isDatum, isWrite}
+use Rattle.description.specs.Declarations.{Description, noCloud, noBlock, cloud, block, isDatum, isWrite}
 use Rattle.description.specs.Invariants.{InRange}
 use Rattle.security.specs.Placements.{serviceCloud, datumCloud}
 use Rattle.weights.specs.Weights.{firstPenalty, secondPenalty, termLimit}

@@ -12,8 +12,8 @@ use Rattle.sequences.proofs.Sums.{sum-most-of}
 use Rattle.description.specs.declared.workflow.Cloud.{Cloud}
 use Rattle.description.specs.declared.workflow.Kind.{Kind}
 use Rattle.description.specs.declared.workflow.Kind.the-variants.{Datum, Service}
-use Rattle.description.specs.Format.{Description, cloud, block}
-use Rattle.description.specs.Bytes.{Bytes}
+use Rattle.description.specs.Declarations.{Description, cloud, block}
+use Rattle.decoding.specs.Bytes.{Bytes}
 use Rattle.description.specs.Invariants.{RatesFit, kindFits, InRange, Bounded}
 use Rattle.security.specs.Soundness.{read}
 use Rattle.costs.specs.Transfers.{Transfer, transfers}

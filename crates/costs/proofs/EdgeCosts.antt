@@ -8,7 +8,7 @@ use mathlib.Core.List.{List, map}
 use lib.Dec.{eqb}
 use Rattle.description.specs.declared.workflow.Edge.{Edge}
 use Rattle.description.specs.declared.workflow.Kind.{Kind}
-use Rattle.description.specs.Format.{Description, cloud, block, isWrite}
+use Rattle.description.specs.Declarations.{Description, cloud, block, isWrite}
 use Rattle.security.specs.Placements.{serviceCloud, datumCloud}
 use Rattle.security.proofs.Moves.{moves-apart}
 use Rattle.costs.specs.Transfers.{transferOf}

@@ -10,7 +10,7 @@ use lib.ListN.{length, getD, set, List·getD-eq-default}
 use borrow.Author.Tests.{ltb-true}
 use Rattle.description.specs.declared.workflow.Block.{Block}
 use Rattle.description.specs.declared.workflow.Edge.{Edge}
-use Rattle.description.specs.Format.{Description, cloud, block, edge, noCloud, noBlock, noEdge}
+use Rattle.description.specs.Declarations.{Description, cloud, block, edge, noCloud, noBlock, noEdge}
 use Rattle.description.specs.Invariants.{WellFormed}
 use Rattle.security.specs.Placements.{serviceCloud, datumCloud, moves}
 use Rattle.security.proofs.Moves.{moves-apart}

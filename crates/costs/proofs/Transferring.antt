@@ -10,7 +10,7 @@ use lib.ListN.{length, getD, take, drop, length-append, take-append-drop, drop-o
 use borrow.Author.Tests.{lt-ltb, le-ltb}
 use lib.Seq.{sets, sets-eq, length-sets, length-take-le, take-at, drop-at, drop-drop}
 use Rattle.description.specs.declared.workflow.Edge.{Edge}
-use Rattle.description.specs.Format.{Description, noEdge}
+use Rattle.description.specs.Declarations.{Description, noEdge}
 use Rattle.costs.specs.Cost.{transferCost, copyCost, edgeCost}
 use Rattle.security.specs.Placements.{moves}
 use Rattle.costs.specs.Transfers.{Transfer, transferOf, transfersFrom, transfers, bytesOf, fitted, bufferAfter}

@@ -11,7 +11,7 @@ use Rattle.sequences.proofs.Tests.{both-pass}
 use Rattle.sequences.specs.Lists.{keep, below, sum}
 use Rattle.sequences.proofs.Numbers.{some-kept, none-kept, kept-most, sum-passing, sum-both, sum-same}
 use Rattle.description.specs.declared.workflow.Edge.{Edge}
-use Rattle.description.specs.Format.{Description, isWrite}
+use Rattle.description.specs.Declarations.{Description, isWrite}
 use Rattle.description.specs.Invariants.{Bounded}
 use Rattle.costs.specs.Cost.{storageOf, cpuOf, ofBlock, cost, edgeCost}
 use Rattle.security.specs.Placements.{serviceCloud, datumCloud, exposes, breaks16, breaks17, broken16, broken17, unexposed}

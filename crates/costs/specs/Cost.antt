@@ -9,7 +9,7 @@ use Rattle.description.specs.declared.workflow.Cloud.{Cloud}
 use Rattle.description.specs.declared.workflow.Kind.{Kind}
 use Rattle.description.specs.declared.workflow.Kind.the-variants.{Datum, Service}
 use Rattle.description.specs.declared.workflow.Edge.{Edge}
-use Rattle.description.specs.Format.{Description, cloud, block}
+use Rattle.description.specs.Declarations.{Description, cloud, block}
 use Rattle.security.specs.Placements.{moves}
 use Rattle.costs.specs.declared.answers.Bill.{Bill}
 use Rattle.costs.specs.Transfers.{Transfer, transferOf, transfers}

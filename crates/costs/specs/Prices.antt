@@ -8,7 +8,7 @@ use lib.ListN.{getD}
 use Rattle.description.specs.declared.workflow.Cloud.{Cloud}
 use Rattle.description.specs.declared.workflow.Edge.{Edge}
 use Rattle.description.specs.declared.workflow.Kind.{Kind}
-use Rattle.description.specs.Format.{Description, cloud, block}
+use Rattle.description.specs.Declarations.{Description, cloud, block}
 use Rattle.security.specs.Placements.{serviceCloud, datumCloud}
 use Rattle.costs.specs.declared.answers.Charge.{Charge}
 use Rattle.costs.specs.declared.answers.Charge.the-variants.{Storage, Copy, Cpu}

@@ -9,7 +9,7 @@ use Rattle.description.specs.declared.workflow.Block.{Block}
 use Rattle.description.specs.declared.workflow.Cloud.{Cloud}
 use Rattle.description.specs.declared.workflow.Edge.{Edge}
 use Rattle.description.specs.declared.workflow.Way.{Way}
-use Rattle.description.specs.Format.{Description, cloud, block, isWrite}
+use Rattle.description.specs.Declarations.{Description, cloud, block, isWrite}
 use Rattle.labels.specs.Labels.{covers}
 use Rattle.security.specs.Soundness.{cloudLabel, blockLabel}
 use Rattle.weights.specs.Weights.{firstPenalty, secondPenalty}

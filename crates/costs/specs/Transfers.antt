@@ -5,7 +5,7 @@ use mathlib.Core.List.{List, [], _∷_, _++_}
 use lib.ListN.{length, drop}
 use lib.Dec.{ltb}
 use Rattle.description.specs.declared.workflow.Edge.{Edge}
-use Rattle.description.specs.Format.{Description, isWrite}
+use Rattle.description.specs.Declarations.{Description, isWrite}
 use Rattle.security.specs.Placements.{serviceCloud, datumCloud, moves}
 use Rattle.sequences.specs.Results.{Result, ok, refused}
 

@@ -1,14 +1,5 @@
 pub mod Arrays
-pub mod CommandBytes
-pub mod Commands
 pub mod Fields
-pub mod Front
-pub mod Limits
 pub mod Named
-pub mod Outcomes
 pub mod Parts
 pub mod Puts
-pub mod Reading
-pub mod Refusals
-pub mod Steps
-pub mod Turns

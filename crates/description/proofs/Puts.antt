@@ -9,7 +9,7 @@ use Rattle.description.specs.declared.workflow.Cloud.{Cloud}
 use Rattle.description.specs.declared.workflow.Block.{Block}
 use Rattle.description.specs.declared.workflow.Edge.{Edge}
 use Rattle.description.specs.declared.workflow.Pair.{Pair}
-use Rattle.description.specs.Format.{withCloud, withBlock, withEdge, withPair}
+use Rattle.description.specs.Declarations.{withCloud, withBlock, withEdge, withPair}
 use Rattle.description.specs.Meaning.{describes, counted}
 use Rattle.description.specs.Layout.{mostClouds, mostBlocks, mostEdges, mostPairs, firstCloud, firstBlock, firstEdge, firstPair, counts}
 use Rattle.description.specs.Layout.{wordCount, recordAt, putRecord, part, toCloud, toBlock, toEdge, toPair}

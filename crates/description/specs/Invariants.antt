@@ -8,7 +8,7 @@ use Rattle.description.specs.declared.workflow.Kind.{Kind}
 use Rattle.description.specs.declared.workflow.Kind.the-variants.{Datum, Service}
 use Rattle.description.specs.declared.workflow.Pin.{Pin}
 use Rattle.description.specs.declared.workflow.Pin.the-variants.{Free, To}
-use Rattle.description.specs.Format.{Description, cloud, block, edge, pair, namesService, namesDatum, isWrite, sameEdge}
+use Rattle.description.specs.Declarations.{Description, cloud, block, edge, pair, namesService, namesDatum, isWrite, sameEdge}
 
 -- at most 8 clouds, 16 blocks, 32 edges, 8 pairs
 pub record Limits (d : Description) : Type 0 where

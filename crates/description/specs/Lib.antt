@@ -1,5 +1,4 @@
-pub mod Bytes
-pub mod Format
+pub mod Declarations
 pub mod Invariants
 pub mod Layout
 pub mod Meaning

@@ -2,7 +2,6 @@
 use Prim.Native.Nat.{ℕ}
 use mathlib.Core.Path.{_≡_}
 use mathlib.Core.List.{List}
-use mathlib.Core.Option.{Option, none, some}
 use lib.ListN.{take, replicate}
 use Rattle.description.specs.declared.words.Record.{Record}
 use Rattle.description.specs.declared.workflow.Cloud.{Cloud}
@@ -13,10 +12,7 @@ use Rattle.description.specs.Layout.{mostClouds, mostBlocks, mostEdges, 
 use Rattle.description.specs.Layout.{wordCount, recordAt, part, toCloud, toBlock, toEdge, toPair}
 use Rattle.description.specs.declared.workflow.Outcome.{Outcome}
 use Rattle.description.specs.declared.workflow.Outcome.the-variants.{Accepted, Refused}
-use Rattle.description.specs.declared.decode.Checked.{Checked}
-use Rattle.description.specs.declared.decode.Checked.the-variants.{Sound, Fault}
-use Rattle.description.specs.declared.decode.Step.{Step}
-use Rattle.description.specs.Format.{Description, Command, faultOf}
+use Rattle.description.specs.Declarations.{Description}
 use Rattle.sequences.specs.Results.{Result, ok, refused}
 
 -- of each as many as the record of counts says
@@ -38,14 +34,3 @@ outcomeOf (Refused r) a = refused (r .number) (r .place)
 abbrev pub Cleared : {A : Type 0} → Result A → List ℕ → Type 0
 Cleared (ok a) w = Unit {0}
 Cleared (refused number place) w = w ≡ replicate wordCount 0
-
--- the number that one command is refused with, if any
-abbrev pub faultIn : Checked → Option ℕ
-faultIn Sound = none
-faultIn (Fault number) = some number
-
--- A step says of the command that s begins with: its fault, its width and, where it has no fault, that d is the description after it.
-pub record Steps (s : List ℕ) (c : Command) (d : Description) (r : Step) : Type 0 where
-  pub fault : faultIn (r .fault) ≡ faultOf s c
-  pub width : r .width ≡ c .width
-  pub after : faultOf s c ≡ none → d ≡ c .after

@@ -1,6 +1,4 @@
-// The description: what its bytes declare, and what of them is refused with 1 to 8.
+// A description in lent words: its clouds, blocks, edges and pairs, put in and looked up.
 
-pub mod decode;
-mod repeats;
 pub mod words;
 pub mod workflow;

@@ -2,7 +2,8 @@
 ghost use mathlib.Core.Path.{_≡_};
 ghost use Prim.Native.Nat.{_<_, _≤_, _%_, min};
 ghost use lib.ListN.{length};
-ghost use Rattle.description.specs.Format.{cloud, block, edge, pair, nothing, withCloud, withBlock, withEdge, withPin, withPair};
+ghost use Rattle.description.specs.Declarations.{cloud, block, edge, pair, nothing, withCloud, withBlock, withEdge, withPin, withPair};
+ghost use Rattle.description.specs.Declarations.{isDatum, isWrite};
 ghost use Rattle.description.specs.Layout.{toCloud, toKind, toPin, toBlock, toWay, toEdge, toPair};
 ghost use Rattle.description.specs.Meaning.{describes};
 use crate::words::BLOCKS;
@@ -408,4 +409,28 @@ pub fn put_pin(w: &mut Words, b: usize, k: u8)
         pin: Pin::To(k),
     };
     put_record(w, BLOCKS + b, block_record(new));
+}
+
+pub fn is_datum(k: Kind) -> bool
+    ensures { λ r. ⌜ r ≡ isDatum k ⌝ }
+{
+    match k {
+        Kind::Datum {
+            size: _,
+            longevity: _,
+        } => true,
+        Kind::Service {
+            clearance: _,
+            units: _,
+        } => false,
+    }
+}
+
+pub fn is_write(w: Way) -> bool
+    ensures { λ r. ⌜ r ≡ isWrite w ⌝ }
+{
+    match w {
+        Way::Reads => false,
+        Way::Writes => true,
+    }
 }

@@ -2,7 +2,7 @@
 use Prim.Native.Nat.{ℕ}
 use mathlib.Core.Path.{_≡_, sym, ap, _∙_}
 use mathlib.Core.List.{List}
-use Rattle.description.specs.Format.{Description}
+use Rattle.description.specs.Declarations.{Description}
 use Rattle.description.specs.declared.workflow.Refusal.{Refusal}
 use Rattle.security.specs.Masks.{masksOf}
 use Rattle.security.specs.Soundness.{count}

@@ -1,6 +1,6 @@
 -- The table of `specs/Marks.antt`, by computation.
 use mathlib.Core.Path.{refl}
-use Rattle.description.specs.Format.{samePair, decode}
+use Rattle.decoding.specs.Format.{samePair, decode}
 use Rattle.labels.specs.Labels.{covers}
 use Rattle.security.specs.Masks.{maskOf, masksOf}
 use Rattle.security.specs.Soundness.{breaks2, breaks3, breaks4, mayStand, choicesOf, count, sound, read}

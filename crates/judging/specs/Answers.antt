@@ -1,7 +1,7 @@
 -- What Read and Masks answer, as enums: for every case the scope's number and values.
 use Prim.Native.Nat.{ℕ}
 use mathlib.Core.List.{List}
-use Rattle.description.specs.Format.{Description}
+use Rattle.description.specs.Declarations.{Description}
 use Rattle.security.specs.Soundness.{count}
 use Rattle.judging.specs.declared.answers.Acceptance.{Acceptance}
 use Rattle.judging.specs.declared.answers.Acceptance.the-variants.{Accepted, Refused}

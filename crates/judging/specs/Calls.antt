@@ -2,7 +2,7 @@
 use Prim.Native.Nat.{ℕ}
 use mathlib.Core.List.{List}
 use lib.ListN.{length}
-use Rattle.description.specs.Format.{Description}
+use Rattle.description.specs.Declarations.{Description}
 use Rattle.security.specs.Masks.{masksOf}
 use Rattle.security.specs.Soundness.{read}
 use Rattle.security.specs.Placements.{judge}

@@ -6,7 +6,7 @@ ghost use Rattle.security.specs.Soundness.{sound, read};
 ghost use Rattle.judging.specs.Answers.{admissionOf, counted, masksAfter};
 ghost use Rattle.judging.specs.Calls.{masked};
 use crate::answers::Admission;
-use description::decode::decode;
+use decoding::decode;
 use description::words::Words;
 use description::words::clear;
 use description::workflow::Outcome;

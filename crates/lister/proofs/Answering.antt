@@ -5,7 +5,7 @@ use mathlib.Core.Bool.{Bool, true, false, _||_}
 use mathlib.Core.List.{List, _∷_, _++_, map}
 use mathlib.Core.Option.{Option, none, some}
 use lib.ListN.{take, replicate}
-use Rattle.description.specs.Format.{Description}
+use Rattle.description.specs.Declarations.{Description}
 use Rattle.costs.specs.Cost.{cost}
 use Rattle.survey.specs.declared.Row.{Row}
 use Rattle.survey.specs.declared.Cursor.{Cursor}

@@ -6,7 +6,7 @@ use mathlib.Core.Logic.{_↔_, inl, inr}
 use mathlib.Core.List.{List, [], _∷_, _++_, map, head?, head-eq-of-cons-eq, List·Memᴰ, List·Memᴰ·head, List·Memᴰ·not-nil}
 use mathlib.Core.Option.{none, some, Option·some-ne-none}
 use lib.ListN.{take, replicate}
-use Rattle.description.specs.Format.{Description}
+use Rattle.description.specs.Declarations.{Description}
 use Rattle.security.specs.Soundness.{read}
 use Rattle.security.proofs.Accepted.{read-wellFormed}
 use Rattle.security.proofs.Candidates.{candidates-secure}

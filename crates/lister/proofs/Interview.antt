@@ -1,7 +1,8 @@
 -- The table of `specs/Interview.antt`: by computation from the bytes, and where there are many candidates by the law that counts them.
 use Prim.Native.Nat.{ℕ}
 use mathlib.Core.Path.{_≡_, refl, ap}
-use Rattle.description.specs.Format.{Description, decode}
+use Rattle.description.specs.Declarations.{Description}
+use Rattle.decoding.specs.Format.{decode}
 use Rattle.judging.specs.Inputs.{flat}
 use Rattle.labels.specs.Labels.{covers}
 use Rattle.sequences.specs.Bits.{bit}

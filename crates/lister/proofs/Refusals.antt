@@ -1,7 +1,7 @@
 -- Census and Draw refuse as Read does.
 use Prim.Native.Nat.{ℕ}
 use mathlib.Core.List.{List}
-use Rattle.description.specs.Bytes.{decidingBytes}
+use Rattle.decoding.specs.Bytes.{decidingBytes}
 use Rattle.sequences.specs.Results.{ok, RefusalWithin}
 use Rattle.sequences.proofs.Results.{within-andThen}
 use Rattle.security.specs.Soundness.{read}

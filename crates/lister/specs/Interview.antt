@@ -5,7 +5,8 @@ use mathlib.Core.Bool.{true}
 use mathlib.Core.List.{List, [], _∷_, _++_, map}
 use mathlib.Core.Option.{none}
 use lib.ListN.{length}
-use Rattle.description.specs.Format.{Description, decode}
+use Rattle.description.specs.Declarations.{Description}
+use Rattle.decoding.specs.Format.{decode}
 use Rattle.judging.specs.Inputs.{m, cloud, datum, end, flat, place}
 use Rattle.security.specs.Soundness.{read, candidates}
 use Rattle.costs.specs.Cost.{gigabytes}

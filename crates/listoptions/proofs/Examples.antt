@@ -1,6 +1,6 @@
 -- The examples of `specs/Printed.antt`: by computation from the bytes.
 use mathlib.Core.Path.{refl}
-use Rattle.description.specs.Format.{samePair, decode}
+use Rattle.decoding.specs.Format.{samePair, decode}
 use Rattle.labels.specs.Labels.{covers}
 use Rattle.sequences.specs.Bits.{bit}
 use Rattle.security.specs.Soundness.{breaks2, breaks3, breaks4, mayStand, choicesOf, candidates, count, sound, read}

@@ -9,8 +9,8 @@ use lib.ListN.{length, take, drop, replicate, length-append, length-take, length
 use lib.Seq.{take-at, take-all, drop-drop, take-append-seam, drop-append-seam}
 use Rattle.sequences.specs.Lists.{from, below, joined}
 use Rattle.sequences.specs.Results.{Result, ok, refused}
-use Rattle.description.specs.Bytes.{Bytes, decidingBytes}
-use Rattle.description.specs.Format.{Description}
+use Rattle.decoding.specs.Bytes.{Bytes, decidingBytes}
+use Rattle.description.specs.Declarations.{Description}
 use Rattle.security.specs.Accepted.{Admitted}
 use Rattle.security.specs.Soundness.{read}
 use Rattle.security.proofs.Accepted.{read-admitted, read-front}

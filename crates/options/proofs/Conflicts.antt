@@ -6,7 +6,7 @@ use mathlib.Core.Logic.{_↔_, Iff·trans, inl, inr}
 use mathlib.Core.Bool.{true}
 use mathlib.Core.List.{List, List·Memᴰ}
 use lib.ListN.{length, getD}
-use Rattle.description.specs.Format.{Description}
+use Rattle.description.specs.Declarations.{Description}
 use Rattle.description.specs.Invariants.{WellFormed}
 use Rattle.security.specs.Conflicts.{isHolder, conflicts}
 use Rattle.security.specs.Placements.{brokenApart}

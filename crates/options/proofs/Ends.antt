@@ -12,7 +12,7 @@ use lib.ListN.{length, getD}
 use borrow.Author.Tests.{eqb-true, not-true}
 use Rattle.description.specs.declared.workflow.Kind.{Kind}
 use Rattle.description.specs.declared.workflow.Edge.{Edge}
-use Rattle.description.specs.Format.{Description, block, cloud, noEdge, isDatum, isWrite}
+use Rattle.description.specs.Declarations.{Description, block, cloud, noEdge, isDatum, isWrite}
 use Rattle.description.specs.Invariants.{WellFormed}
 use Rattle.security.specs.Placements.{serviceCloud, datumCloud, moves}
 use Rattle.costs.specs.Cost.{chargedOf, copyOf, edgeCost}

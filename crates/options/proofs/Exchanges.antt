@@ -7,7 +7,7 @@ use mathlib.Core.Bool.{not, _&&_}
 use mathlib.Core.List.{List, [], _∷_}
 use lib.ListN.{length, getD}
 use Rattle.description.specs.declared.workflow.Kind.the-variants.{Datum}
-use Rattle.description.specs.Format.{Description, cloud, block}
+use Rattle.description.specs.Declarations.{Description, cloud, block}
 use Rattle.security.specs.Soundness.{mayStand}
 use Rattle.costs.specs.Cost.{gigabytes, copyOf}
 use Rattle.options.specs.Options.{writersOf, readersOf}

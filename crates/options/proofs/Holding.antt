@@ -12,7 +12,7 @@ use lib.Dec.{eqb}
 use borrow.Author.Tests.{eqb-true, eq-eqb, ne-eqb, ltb-true}
 use Rattle.description.specs.declared.workflow.Edge.{Edge}
 use Rattle.description.specs.declared.workflow.Pair.{Pair}
-use Rattle.description.specs.Format.{Description, block, pair, noPair, isDatum, isWrite, namesDatum}
+use Rattle.description.specs.Declarations.{Description, block, pair, noPair, isDatum, isWrite, namesDatum}
 use Rattle.description.specs.Invariants.{WellFormed}
 use Rattle.security.specs.Placements.{serviceCloud, datumCloud, moves, holds, brokenApart}
 use Rattle.security.proofs.Holding.{holder-if, holds-if, same-broken}

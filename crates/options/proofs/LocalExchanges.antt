@@ -9,7 +9,7 @@ use mathlib.Core.Option.{Option, none, some, Option·some-ne-none}
 use lib.ListN.{length, getD, set}
 use lib.Seq.{set-getD}
 use borrow.Author.Tests.{not-true, not-false}
-use Rattle.description.specs.Format.{Description}
+use Rattle.description.specs.Declarations.{Description}
 use Rattle.description.specs.Invariants.{WellFormed}
 use Rattle.security.specs.Soundness.{mayStand}
 use Rattle.options.specs.Representatives.{dataOf, keptOn, share, betterOn, standsLocally, SecureCandidate}

@@ -12,7 +12,7 @@ use borrow.Author.Tests.{eqb-true, ltb-true, lt-ltb, le-ltb}
 use Rattle.description.specs.declared.workflow.Cloud.{Cloud}
 use Rattle.description.specs.declared.workflow.Kind.{Kind}
 use Rattle.description.specs.declared.workflow.Edge.{Edge}
-use Rattle.description.specs.Format.{Description, block, cloud, edge, noEdge, isDatum, isWrite, namesService}
+use Rattle.description.specs.Declarations.{Description, block, cloud, edge, noEdge, isDatum, isWrite, namesService}
 use Rattle.description.specs.Invariants.{WellFormed}
 use Rattle.security.specs.Placements.{serviceCloud, datumCloud, moves}
 use Rattle.costs.specs.Cost.{cpuOf, ofBlocks, edgeCost, cost}

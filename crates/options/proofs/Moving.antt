@@ -8,7 +8,7 @@ use mathlib.Core.Bool.{true, true≢false}
 use mathlib.Core.List.{List, List·Memᴰ}
 use lib.ListN.{length, getD, set, length-set}
 use lib.Seq.{getD-set-same, getD-set-other}
-use Rattle.description.specs.Format.{Description, block}
+use Rattle.description.specs.Declarations.{Description, block}
 use Rattle.description.specs.Invariants.{WellFormed}
 use Rattle.security.specs.Soundness.{mayStand, candidates}
 use Rattle.costs.specs.Cost.{cost}

@@ -9,7 +9,7 @@ use lib.ListN.{length, getD}
 use borrow.Author.Tests.{ltb-true, not-true}
 use Rattle.description.specs.declared.workflow.Kind.{Kind}
 use Rattle.description.specs.declared.workflow.Kind.the-variants.{Datum, Service}
-use Rattle.description.specs.Format.{Description, block, isDatum, namesService}
+use Rattle.description.specs.Declarations.{Description, block, isDatum, namesService}
 use Rattle.options.specs.Options.{readersOf, stem, branch, joined, part, partOf, option, sameOption}
 use Rattle.options.specs.Representatives.{SameServices}
 use Rattle.sequences.specs.Lists.{below, equalBy, same}

@@ -9,7 +9,7 @@ use mathlib.Core.Bool.{true, false, not, true≢false, Bool-discrete}
 use mathlib.Core.List.{List, [], _∷_, map, List·Memᴰ}
 use lib.ListN.{length, getD, set}
 use borrow.Author.Tests.{lt-ltb, not-true}
-use Rattle.description.specs.Format.{Description, block, isDatum}
+use Rattle.description.specs.Declarations.{Description, block, isDatum}
 use Rattle.description.specs.Invariants.{WellFormed}
 use Rattle.security.specs.Soundness.{mayStand}
 use Rattle.costs.specs.Cost.{cost}

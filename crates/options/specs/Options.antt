@@ -7,7 +7,7 @@ use lib.Dec.{eqb}
 use Rattle.description.specs.declared.workflow.Kind.{Kind}
 use Rattle.description.specs.declared.workflow.Kind.the-variants.{Datum, Service}
 use Rattle.description.specs.declared.workflow.Edge.{Edge}
-use Rattle.description.specs.Format.{Description, block, isWrite}
+use Rattle.description.specs.Declarations.{Description, block, isWrite}
 use Rattle.security.specs.Placements.{serviceCloud, moves}
 use Rattle.sequences.specs.Lists.{keep, below, equalBy, same}
 

@@ -8,7 +8,7 @@ use mathlib.Core.Option.{Option, none, some}
 use lib.ListN.{length, getD, set}
 use lib.Dec.{eqb}
 use Rattle.description.specs.declared.workflow.Edge.{Edge}
-use Rattle.description.specs.Format.{Description, block, cloud, isDatum, namesService}
+use Rattle.description.specs.Declarations.{Description, block, cloud, isDatum, namesService}
 use Rattle.security.specs.Soundness.{mayStand, candidates}
 use Rattle.security.specs.Placements.{serviceCloud, secure}
 use Rattle.costs.specs.Cost.{storageOf, copyOf, edgeCost, cost}

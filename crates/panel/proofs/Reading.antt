@@ -5,7 +5,7 @@ use mathlib.Core.Path.{refl}
 use mathlib.Core.List.{List}
 use Rattle.sequences.specs.Results.{Result, ok, refused, RefusalWithin}
 use Rattle.sequences.proofs.Results.{within-more}
-use Rattle.description.specs.Bytes.{Bytes, decidingBytes}
+use Rattle.decoding.specs.Bytes.{Bytes, decidingBytes}
 use Rattle.judging.specs.Calls.{readCall, masksCall, judgeCall, transfersCall}
 use Rattle.judging.proofs.Refusals.{readCall-within, masksCall-within, judgeCall-within, transfersCall-within}
 use Rattle.picture.specs.Calls.{pictureCall, sizeCall}

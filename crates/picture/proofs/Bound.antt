@@ -9,7 +9,7 @@ use mathlib.Core.List.{List, []}
 use lib.ListN.{length, getD, length-append}
 use Rattle.description.specs.declared.workflow.Kind.{Kind}
 use Rattle.description.specs.declared.workflow.Kind.the-variants.{Datum, Service}
-use Rattle.description.specs.Format.{Description, block, edge, isWrite}
+use Rattle.description.specs.Declarations.{Description, block, edge, isWrite}
 use Rattle.description.specs.Invariants.{WellFormed}
 use Rattle.description.proofs.Named.{service-block, datum-block}
 use Rattle.security.specs.Placements.{serviceCloud, datumCloud, moves}

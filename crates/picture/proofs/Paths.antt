@@ -5,7 +5,7 @@ use mathlib.Core.Bool.{true, false}
 use mathlib.Core.List.{List, []}
 use lib.ListN.{getD}
 use Rattle.description.specs.declared.workflow.Edge.{Edge}
-use Rattle.description.specs.Format.{Description, block, isWrite}
+use Rattle.description.specs.Declarations.{Description, block, isWrite}
 use Rattle.security.specs.Placements.{serviceCloud, datumCloud, moves}
 use Rattle.picture.specs.Picture.{node, letterOf, readInPlace, movedRead, writeInPlace, movedWrite, readPath, writePath, pathOf, line, hasEdge, blockLine}
 

@@ -7,8 +7,8 @@ use lib.ListN.{length}
 use lib.Dec.{ltb}
 use Rattle.sequences.specs.Results.{ok, refused, andThen, RefusalWithin}
 use Rattle.sequences.proofs.Results.{within-more, within-cond, within-andThen}
-use Rattle.description.specs.Bytes.{decidingBytes}
-use Rattle.description.specs.Format.{Description}
+use Rattle.decoding.specs.Bytes.{decidingBytes}
+use Rattle.description.specs.Declarations.{Description}
 use Rattle.security.specs.Soundness.{read}
 use Rattle.security.specs.Placements.{judge}
 use Rattle.security.proofs.Refusals.{read-within, judged-within}

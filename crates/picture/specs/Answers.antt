@@ -2,7 +2,7 @@
 use Prim.Native.Nat.{ℕ}
 use mathlib.Core.List.{List}
 use lib.ListN.{length}
-use Rattle.description.specs.Format.{Description}
+use Rattle.description.specs.Declarations.{Description}
 use Rattle.security.specs.declared.answers.Verdict.{Verdict}
 use Rattle.security.specs.declared.answers.Verdict.the-variants as verdict
 use Rattle.picture.specs.declared.Pictured.{Pictured}

@@ -4,7 +4,7 @@ use mathlib.Core.Bool.{cond}
 use mathlib.Core.List.{List, _++_}
 use lib.ListN.{length, drop}
 use lib.Dec.{ltb}
-use Rattle.description.specs.Format.{Description}
+use Rattle.description.specs.Declarations.{Description}
 use Rattle.security.specs.Soundness.{read}
 use Rattle.security.specs.Placements.{judge}
 use Rattle.sequences.specs.Results.{Result, ok, refused, andThen}

@@ -8,7 +8,7 @@ use Rattle.sequences.specs.Lists.{any}
 use Rattle.description.specs.declared.workflow.Edge.{Edge}
 use Rattle.description.specs.declared.workflow.Kind.{Kind}
 use Rattle.description.specs.declared.workflow.Kind.the-variants.{Datum, Service}
-use Rattle.description.specs.Format.{Description, block, edge, isWrite}
+use Rattle.description.specs.Declarations.{Description, block, edge, isWrite}
 use Rattle.security.specs.Placements.{serviceCloud, datumCloud, moves}
 use Rattle.list_text.specs.Lines.{ascii, decimal}
 

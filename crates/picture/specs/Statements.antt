@@ -5,7 +5,7 @@ use mathlib.Core.Bool.{cond}
 use mathlib.Core.List.{List}
 use lib.ListN.{length}
 use lib.Dec.{ltb}
-use Rattle.description.specs.Format.{Description}
+use Rattle.description.specs.Declarations.{Description}
 use Rattle.security.specs.Soundness.{read}
 use Rattle.judging.specs.Calls.{judgeCall}
 use Rattle.sequences.specs.Results.{ok, refused, andThen}

@@ -10,11 +10,12 @@ use Rattle.sequences.specs.Lists.{first}
 use Rattle.sequences.specs.Results.{ok, andThen}
 use Rattle.sequences.proofs.Tests.{cond-none}
 use Rattle.sequences.proofs.Results.{ok-inj, andThen-ok, unless-ok}
-use Rattle.description.specs.Format.{Description, decode}
-use Rattle.description.specs.Bytes.{Bytes, decidingBytes}
+use Rattle.description.specs.Declarations.{Description}
+use Rattle.decoding.specs.Format.{decode}
+use Rattle.decoding.specs.Bytes.{Bytes, decidingBytes}
 use Rattle.description.specs.Invariants.{WellFormed, InRange, Bounded}
-use Rattle.description.proofs.Front.{front-decides}
-use Rattle.description.proofs.Limits.{decoded-wellFormed, decoded-inRange}
+use Rattle.decoding.proofs.Front.{front-decides}
+use Rattle.decoding.proofs.Limits.{decoded-wellFormed, decoded-inRange}
 use Rattle.security.specs.Soundness.{breaks2, breaks3, breaks4, count, tooMany, sound, read}
 use Rattle.security.specs.Accepted.{Accepted, Admitted}
 

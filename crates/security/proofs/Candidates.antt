@@ -8,7 +8,7 @@ use mathlib.Core.Bool.{true}
 use mathlib.Core.List.{List, [], map, List·Memᴰ, Memᴰ·of-map}
 use lib.Dec.{ltb}
 use lib.ListN.{length, getD}
-use Rattle.description.specs.Format.{Description}
+use Rattle.description.specs.Declarations.{Description}
 use Rattle.security.specs.Soundness.{candidates, choicesOf, count, mayStand, positions}
 use Rattle.security.specs.Placements.{judge, secure}
 use Rattle.security.specs.Statements.{Good, Placed}

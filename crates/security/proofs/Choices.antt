@@ -6,7 +6,7 @@ use mathlib.Core.List.{[], _∷_}
 use lib.Dec.{eqb}
 use lib.ListN.{length}
 use borrow.Author.Tests.{lt-ltb, le-ltb}
-use Rattle.description.specs.Format.{Description, block}
+use Rattle.description.specs.Declarations.{Description, block}
 use Rattle.sequences.specs.Lists.{keep, below}
 use Rattle.sequences.proofs.Agreeing.{keep-agree}
 use Rattle.security.specs.Soundness.{blockLabel, pinAllows, cloudCovers, mayStand, choicesOf}

@@ -11,7 +11,7 @@ use borrow.Author.Tests.{eqb-false, ne-eqb, not-true, not-false}
 use Rattle.description.specs.declared.workflow.Edge.{Edge}
 use Rattle.description.specs.declared.workflow.Way.{Way}
 use Rattle.description.specs.declared.workflow.Way.the-variants.{Reads, Writes}
-use Rattle.description.specs.Format.{Description, edge, noEdge, isWrite, sameWay}
+use Rattle.description.specs.Declarations.{Description, edge, noEdge, isWrite, sameWay}
 use Rattle.labels.proofs.Covering.{covers-is, covers-not}
 use Rattle.security.specs.Soundness.{positions}
 use Rattle.security.specs.Placements.{moves, exposes, badPosition}

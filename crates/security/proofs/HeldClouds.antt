@@ -12,7 +12,7 @@ use lib.Seq.{take-all, getD-set-same, getD-set-other, ext-getD}
 use borrow.Author.Tests.{eqb-true, eq-eqb, ne-eqb, lt-ltb, le-ltb}
 use Rattle.description.specs.declared.workflow.Edge.{Edge}
 use Rattle.description.specs.declared.workflow.Pair.{Pair}
-use Rattle.description.specs.Format.{Description, noEdge, edge}
+use Rattle.description.specs.Declarations.{Description, noEdge, edge}
 use Rattle.security.specs.HeldClouds.{marked, heldBy}
 use Rattle.security.specs.Placements.{serviceCloud, holds, holdsBoth}
 use Rattle.security.proofs.Holding.{holder-if, holds-if}

@@ -11,7 +11,7 @@ use lib.ListN.{length, getD}
 use borrow.Author.Tests.{eqb-true, eq-eqb, ne-eqb}
 use Rattle.description.specs.declared.workflow.Edge.{Edge}
 use Rattle.description.specs.declared.workflow.Pair.{Pair}
-use Rattle.description.specs.Format.{Description}
+use Rattle.description.specs.Declarations.{Description}
 use Rattle.security.specs.Conflicts.{serves, isHolder, conflictBy, conflicts}
 use Rattle.security.specs.Placements.{serviceCloud, datumCloud, moves, copies, holds, holdsBoth, together, brokenApart}
 use Rattle.sequences.specs.Lists.{any, below}

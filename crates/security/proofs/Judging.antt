@@ -8,7 +8,7 @@ use mathlib.Core.List.{List}
 use mathlib.Core.Option.{Option, none, some}
 use borrow.Author.Tests.{not-true}
 use Rattle.description.specs.declared.workflow.Way.the-variants.{Reads, Writes}
-use Rattle.description.specs.Format.{Description}
+use Rattle.description.specs.Declarations.{Description}
 use Rattle.security.specs.Soundness.{positions}
 use Rattle.security.specs.Placements.{badPosition, breaks16, breaks17, together, judge, secure, broken16, broken17, brokenApart}
 use Rattle.security.specs.Statements.{Good, Placed, AllKeep, FirstBreaks, AllApart, FirstMeets, Secure}

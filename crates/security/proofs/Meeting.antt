@@ -10,7 +10,7 @@ use lib.ListN.{length, getD}
 use borrow.Author.Tests.{eqb-true, eqb-false, eq-eqb, ne-eqb, not-true}
 use Rattle.description.specs.declared.workflow.Edge.{Edge}
 use Rattle.description.specs.declared.workflow.Pair.{Pair}
-use Rattle.description.specs.Format.{Description, edge, noEdge, pair, noPair}
+use Rattle.description.specs.Declarations.{Description, edge, noEdge, pair, noPair}
 use Rattle.security.specs.Placements.{moves, copies, holds, holdsBoth, together}
 use Rattle.security.specs.Statements.{Copies, Holds, Meet, AllApart, FirstMeets}
 use Rattle.sequences.specs.Lists.{any, first, below}

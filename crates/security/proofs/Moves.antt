@@ -6,7 +6,7 @@ use mathlib.Core.Bool.{true, false, not, _&&_}
 use mathlib.Core.List.{List}
 use lib.Dec.{eqb}
 use Rattle.description.specs.declared.workflow.Edge.{Edge}
-use Rattle.description.specs.Format.{Description, isWrite}
+use Rattle.description.specs.Declarations.{Description, isWrite}
 use Rattle.labels.specs.Labels.{covers}
 use Rattle.security.specs.Soundness.{cloudLabel, blockLabel}
 use Rattle.security.specs.Placements.{serviceCloud, datumCloud, moves, exposes, breaks16, breaks17}

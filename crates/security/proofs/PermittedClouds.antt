@@ -15,7 +15,7 @@ use lib.Seq.{ext-getD}
 use borrow.Author.Tests.{ltb-true, lt-ltb, le-ltb, eq-eqb, ne-eqb}
 use Rattle.description.specs.declared.workflow.Pin.{Pin}
 use Rattle.description.specs.declared.workflow.Pin.the-variants.{Free, To}
-use Rattle.description.specs.Format.{Description, block, namesBlock}
+use Rattle.description.specs.Declarations.{Description, block, namesBlock}
 use Rattle.description.specs.Invariants.{Limits}
 use Rattle.security.specs.Masks.{leftBy, maskOf, masksOf, Permitted, blockMasks, padded, Chooses}
 use Rattle.security.specs.Soundness.{blockLabel, pinAllows, cloudCovers, mayStand, choicesOf, candidates}

@@ -11,11 +11,12 @@ use Rattle.sequences.specs.Lists.{first}
 use Rattle.sequences.specs.Results.{ok, RefusalWithin}
 use Rattle.sequences.proofs.First.{first-below}
 use Rattle.sequences.proofs.Results.{within-more, within-unless, within-andThen}
-use Rattle.description.specs.Bytes.{decidingBytes}
-use Rattle.description.specs.Format.{Description, decode}
+use Rattle.decoding.specs.Bytes.{decidingBytes}
+use Rattle.description.specs.Declarations.{Description}
+use Rattle.decoding.specs.Format.{decode}
 use Rattle.description.specs.Invariants.{Limits}
-use Rattle.description.proofs.Limits.{decoded-wellFormed}
-use Rattle.description.proofs.Refusals.{decode-within}
+use Rattle.decoding.proofs.Limits.{decoded-wellFormed}
+use Rattle.decoding.proofs.Refusals.{decode-within}
 use Rattle.security.specs.Soundness.{breaks2, breaks3, breaks4, count, tooMany, positions, sound, read}
 use Rattle.security.specs.Placements.{badPosition, breaks16, breaks17, together, judge}
 use Rattle.security.proofs.Accepted.{read-wellFormed}

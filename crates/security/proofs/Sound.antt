@@ -5,7 +5,8 @@ use mathlib.Core.Path.{_≡_, refl}
 use mathlib.Core.List.{List}
 use mathlib.Core.Option.{none, some}
 use borrow.Author.Tests.{lt-ltb, le-ltb}
-use Rattle.description.specs.Format.{Description, decode}
+use Rattle.description.specs.Declarations.{Description}
+use Rattle.decoding.specs.Format.{decode}
 use Rattle.security.specs.Soundness.{breaks2, breaks3, breaks4, count, sound, read}
 use Rattle.sequences.specs.Lists.{first}
 use Rattle.sequences.specs.Results.{ok, refused}

@@ -11,7 +11,7 @@ use lib.ListN.{length, getD}
 use borrow.Author.Tests.{ltb-true, lt-ltb, le-ltb, eqb-true, eq-eqb}
 use Rattle.description.specs.declared.workflow.Pin.{Pin}
 use Rattle.description.specs.declared.workflow.Pin.the-variants.{Free, To}
-use Rattle.description.specs.Format.{Description, block, isPinned}
+use Rattle.description.specs.Declarations.{Description, block, isPinned}
 use Rattle.labels.proofs.Covering.{covers-is}
 use Rattle.security.specs.Soundness.{blockLabel, pinAllows, cloudCovers, mayStand}
 use Rattle.security.specs.Statements.{Stands, Good}

@@ -11,7 +11,7 @@ use lib.Dec.{eqb}
 use lib.ListN.{length}
 use borrow.Author.Tests.{ltb-true, ne-eqb, not-true, not-false}
 use Rattle.description.specs.declared.workflow.Edge.{Edge}
-use Rattle.description.specs.Format.{Description, noEdge, isWrite}
+use Rattle.description.specs.Declarations.{Description, noEdge, isWrite}
 use Rattle.description.specs.Invariants.{WellFormed}
 use Rattle.labels.specs.Labels.{Covers}
 use Rattle.labels.proofs.Covering.{covers-is}

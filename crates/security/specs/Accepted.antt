@@ -3,7 +3,8 @@ use Prim.Native.Nat.{ℕ, _≤_}
 use mathlib.Core.Path.{_≡_}
 use mathlib.Core.List.{List}
 use mathlib.Core.Option.{none}
-use Rattle.description.specs.Format.{Description, decode}
+use Rattle.description.specs.Declarations.{Description}
+use Rattle.decoding.specs.Format.{decode}
 use Rattle.description.specs.Invariants.{WellFormed, InRange}
 use Rattle.security.specs.Soundness.{breaks2, breaks3, breaks4, count}
 use Rattle.sequences.specs.Lists.{first}

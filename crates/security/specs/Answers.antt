@@ -4,7 +4,7 @@ use mathlib.Core.Bool.{Bool}
 use mathlib.Core.List.{List}
 use mathlib.Core.Option.{Option, none, some}
 use Rattle.description.specs.declared.workflow.Edge.{Edge}
-use Rattle.description.specs.Format.{Description}
+use Rattle.description.specs.Declarations.{Description}
 use Rattle.security.specs.declared.answers.Verdict.{Verdict}
 use Rattle.security.specs.declared.answers.Verdict.the-variants.{Secure, Refused}
 use Rattle.security.specs.declared.answers.Found.{Found}

@@ -7,7 +7,7 @@ use mathlib.Core.List.{List, _++_, map}
 use lib.ListN.{length, getD, take, replicate}
 use Rattle.description.specs.declared.workflow.Pin.{Pin}
 use Rattle.description.specs.declared.workflow.Pin.the-variants.{Free, To}
-use Rattle.description.specs.Format.{Description, namesBlock}
+use Rattle.description.specs.Declarations.{Description, namesBlock}
 use Rattle.security.specs.Soundness.{mayStand, candidates, count}
 use Rattle.security.specs.Statements.{Stands}
 use Rattle.sequences.specs.Arrays.{table}

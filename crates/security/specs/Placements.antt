@@ -6,7 +6,7 @@ use lib.ListN.{length, getD}
 use lib.Dec.{eqb}
 use Rattle.description.specs.declared.workflow.Edge.{Edge}
 use Rattle.description.specs.declared.workflow.Pair.{Pair}
-use Rattle.description.specs.Format.{Description, isWrite}
+use Rattle.description.specs.Declarations.{Description, isWrite}
 use Rattle.security.specs.Soundness.{cloudLabel, blockLabel, mayStand, positions}
 use Rattle.labels.specs.Labels.{covers}
 use Rattle.sequences.specs.Lists.{any, first, below}

@@ -11,7 +11,8 @@ use Rattle.description.specs.declared.workflow.Kind.the-variants.{Datum, Servic
 use Rattle.description.specs.declared.workflow.Pin.{Pin}
 use Rattle.description.specs.declared.workflow.Pin.the-variants.{Free, To}
 use Rattle.description.specs.declared.workflow.Edge.{Edge}
-use Rattle.description.specs.Format.{Description, cloud, block, isWrite, namesCloud, namesBlock, decode}
+use Rattle.description.specs.Declarations.{Description, cloud, block, isWrite, namesCloud, namesBlock}
+use Rattle.decoding.specs.Format.{decode}
 use Rattle.labels.specs.Labels.{covers}
 use Rattle.sequences.specs.Lists.{keep, first, below, sequences, product}
 use Rattle.sequences.specs.Results.{Result, ok, unless, andThen}

@@ -9,7 +9,7 @@ use Rattle.description.specs.declared.workflow.Way.{Way}
 use Rattle.description.specs.declared.workflow.Way.the-variants.{Reads, Writes}
 use Rattle.description.specs.declared.workflow.Edge.{Edge}
 use Rattle.description.specs.declared.workflow.Pair.{Pair}
-use Rattle.description.specs.Format.{Description, block, edge, pair}
+use Rattle.description.specs.Declarations.{Description, block, edge, pair}
 use Rattle.labels.specs.Labels.{Covers}
 use Rattle.security.specs.Soundness.{blockLabel, cloudLabel}
 use Rattle.security.specs.Placements.{serviceCloud, datumCloud}

@@ -20,7 +20,6 @@ use crate::masks::Masks;
 use crate::masks::POSITIONS;
 use crate::soundness::breaks_rule3;
 use crate::soundness::breaks_rule4;
-use description::decode::is_write;
 use description::words::Words;
 use description::workflow::Edge;
 use description::workflow::Refusal;
@@ -29,6 +28,7 @@ use description::workflow::block_count;
 use description::workflow::cloud_at;
 use description::workflow::edge_at;
 use description::workflow::edge_count;
+use description::workflow::is_write;
 use labels::covers;
 use sequences::wide;
 

@@ -5,7 +5,6 @@ ghost use Rattle.description.specs.Meaning.{describes};
 ghost use Rattle.security.specs.Answers.{foundIn};
 ghost use Rattle.security.specs.Soundness.{clearanceOf, breaks2, breaks3, breaks4, cloudCovers};
 use crate::answers::Found;
-use description::decode::is_write;
 use description::words::Words;
 use description::workflow::Block;
 use description::workflow::Edge;
@@ -14,6 +13,7 @@ use description::workflow::block_at;
 use description::workflow::block_count;
 use description::workflow::cloud_at;
 use description::workflow::cloud_count;
+use description::workflow::is_write;
 use labels::covers;
 use sequences::wide;
 

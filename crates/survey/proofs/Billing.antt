@@ -2,8 +2,8 @@
 use Prim.Native.Nat.{ℕ}
 use mathlib.Core.Path.{_≡_, refl, sym, ap, subst, _∙_}
 use mathlib.Core.List.{List, List·Memᴰ}
-use Rattle.description.specs.Bytes.{Bytes}
-use Rattle.description.specs.Format.{Description}
+use Rattle.decoding.specs.Bytes.{Bytes}
+use Rattle.description.specs.Declarations.{Description}
 use Rattle.security.specs.Accepted.{Admitted}
 use Rattle.security.specs.Soundness.{read}
 use Rattle.security.proofs.Accepted.{admitted-bounded, read-admitted}

@@ -5,7 +5,7 @@ use mathlib.Core.Bool.{Bool, true, false, not, _&&_, cond}
 use mathlib.Core.List.{List, map}
 use lib.Dec.{eqb}
 use lib.ListN.{length, length-map}
-use Rattle.description.specs.Format.{Description}
+use Rattle.description.specs.Declarations.{Description}
 use Rattle.description.specs.Invariants.{WellFormed}
 use Rattle.security.specs.Soundness.{candidates, count}
 use Rattle.security.specs.Placements.{judge, broken16, broken17, unexposed, brokenApart, secure}

@@ -5,7 +5,7 @@ use mathlib.Core.Logic.{_↔_, Iff·trans}
 use mathlib.Core.Bool.{true, _&&_}
 use mathlib.Core.List.{List, map, foldl, List·Memᴰ, Memᴰ·map, Memᴰ·of-map, Memᴰ·cast}
 use mathlib.Core.Option.{none}
-use Rattle.description.specs.Format.{Description}
+use Rattle.description.specs.Declarations.{Description}
 use Rattle.security.specs.Soundness.{candidates}
 use Rattle.security.specs.Placements.{secure}
 use Rattle.security.proofs.Candidates.{candidates-once}

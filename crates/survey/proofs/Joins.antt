@@ -11,7 +11,7 @@ use lib.ListN.{length, getD, replicate, length-map}
 use Rattle.sequences.specs.Lists.{before}
 use Rattle.sequences.proofs.Members.{keep-members}
 use Rattle.sequences.proofs.Orders.{before-irreflexive}
-use Rattle.description.specs.Format.{Description}
+use Rattle.description.specs.Declarations.{Description}
 use Rattle.description.specs.Invariants.{WellFormed, Bounded}
 use Rattle.security.specs.Accepted.{Admitted}
 use Rattle.security.specs.Soundness.{candidates, count}

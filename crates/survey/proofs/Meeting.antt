@@ -2,7 +2,7 @@
 use mathlib.Core.Path.{ap, _∙_}
 use mathlib.Core.List.{foldl}
 use lib.ListN.{length}
-use Rattle.description.specs.Format.{Description}
+use Rattle.description.specs.Declarations.{Description}
 use Rattle.description.specs.Invariants.{WellFormed}
 use Rattle.security.proofs.PermittedClouds.{masks-permitted, masks-choose}
 use Rattle.walk.specs.Walking.{seeAt, keepAt}

@@ -1,7 +1,7 @@
 -- Placements are ordered strictly by cost and then by their sixteen bytes. Rows as values are not: two may differ in their bills alone.
 use Prim.Native.Nat.{ℕ}
 use mathlib.Core.List.{List, _∷_, tail-eq-of-cons-eq}
-use Rattle.description.specs.Format.{Description}
+use Rattle.description.specs.Declarations.{Description}
 use Rattle.costs.specs.Cost.{cost}
 use Rattle.survey.specs.Rows.{earlier, rowOf}
 use Rattle.sequences.specs.Orders.{StrictOrder}

@@ -14,7 +14,7 @@ use Rattle.sequences.proofs.Members.{keep-members}
 use Rattle.sequences.proofs.Parts.{keep-both, two-parts}
 use Rattle.sequences.proofs.Sorting.{sort-members}
 use Rattle.sequences.proofs.Tests.{both-pass}
-use Rattle.description.specs.Format.{Description}
+use Rattle.description.specs.Declarations.{Description}
 use Rattle.security.specs.Accepted.{Admitted}
 use Rattle.security.specs.Soundness.{candidates, count}
 use Rattle.security.specs.Placements.{secure}

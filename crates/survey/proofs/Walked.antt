@@ -13,7 +13,7 @@ use Rattle.sequences.specs.Draws.{betterIf, beats}
 use Rattle.sequences.specs.Lists.{keep, before}
 use Rattle.sequences.proofs.Agreeing.{keep-agree, keep-map}
 use Rattle.sequences.proofs.Parts.{keep-both}
-use Rattle.description.specs.Format.{Description}
+use Rattle.description.specs.Declarations.{Description}
 use Rattle.security.specs.Soundness.{candidates}
 use Rattle.security.specs.Placements.{broken16, broken17, unexposed, brokenApart, secure}
 use Rattle.costs.specs.Cost.{cost}

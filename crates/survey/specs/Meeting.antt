@@ -4,7 +4,7 @@ use mathlib.Core.List.{List, foldl}
 use Prim.Native.Nat.{ℕ}
 use lib.ListN.{length}
 use Rattle.sequences.specs.Bits.{bitChoices}
-use Rattle.description.specs.Format.{Description}
+use Rattle.description.specs.Declarations.{Description}
 use Rattle.security.specs.Masks.{masksOf, blockMasks, Permitted, Chooses}
 use Rattle.walk.specs.Walking.{seeAt, keepAt}
 use Rattle.tables.specs.Building.{tablesOf}

@@ -3,7 +3,7 @@ use Prim.Native.Nat.{ℕ, _*_}
 use mathlib.Core.List.{List, map}
 use lib.ListN.{length, take}
 use Rattle.sequences.specs.Lists.{keep}
-use Rattle.description.specs.Format.{Description}
+use Rattle.description.specs.Declarations.{Description}
 use Rattle.packing.specs.Packing.{pack}
 use Rattle.sorting.specs.Rows.{flat}
 use Rattle.survey.specs.declared.Row.{Row}

@@ -4,7 +4,7 @@ use mathlib.Core.Bool.{Bool, not, _&&_, _||_}
 use mathlib.Core.List.{List, _∷_, map}
 use mathlib.Core.Option.{Option}
 use lib.ListN.{length}
-use Rattle.description.specs.Format.{Description}
+use Rattle.description.specs.Declarations.{Description}
 use Rattle.security.specs.Soundness.{candidates}
 use Rattle.security.specs.Placements.{broken16, broken17, unexposed, brokenApart, secure}
 use Rattle.costs.specs.Cost.{billOf, cost}

@@ -4,7 +4,7 @@ use mathlib.Core.Path.{_≡_}
 use mathlib.Core.Bool.{not}
 use mathlib.Core.List.{List, [], _∷_, _++_}
 use lib.ListN.{length, replicate}
-use Rattle.description.specs.Format.{Description}
+use Rattle.description.specs.Declarations.{Description}
 use Rattle.packing.specs.Packing.{pack, Low}
 use Rattle.weights.specs.Weights.{costLimit}
 use Rattle.visit.specs.Visits.{earlier}

@@ -9,7 +9,7 @@ use lib.Dec.{ltb, lit<}
 use lib.ListN.{length, getD, replicate, length-append, length-replicate}
 use borrow.Author.Tests.{lt-ltb}
 use Rattle.description.specs.declared.workflow.Edge.{Edge}
-use Rattle.description.specs.Format.{Description, noEdge, edge}
+use Rattle.description.specs.Declarations.{Description, noEdge, edge}
 use Rattle.description.specs.Invariants.{Limits, WellFormed, InRange}
 use Rattle.security.specs.Soundness.{mayStand, candidates}
 use Rattle.security.specs.Placements.{serviceCloud, datumCloud}

@@ -6,7 +6,7 @@ use mathlib.Core.Bool.{Bool, true, false, cond}
 use lib.Dec.{ltb, lit<}
 use borrow.Author.Tests.{ltb-true, ltb-false}
 use Rattle.description.specs.declared.workflow.Edge.{Edge}
-use Rattle.description.specs.Format.{Description, noEdge, edge}
+use Rattle.description.specs.Declarations.{Description, noEdge, edge}
 use Rattle.description.specs.Invariants.{WellFormed}
 use Rattle.description.proofs.Named.{service-block, datum-block}
 use Rattle.sequences.proofs.Positions.{everywhere}

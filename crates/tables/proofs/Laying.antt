@@ -6,7 +6,7 @@ use mathlib.Core.Path.{_≡_, refl, sym, ap, ap₂, subst, _∙_}
 use mathlib.Core.List.{List, [], _∷_, _++_, append-nil, append-assoc}
 use lib.ListN.{length, take, drop, set, replicate, length-append, length-replicate, replicate-append-replicate}
 use lib.Seq.{take-at, drop-at}
-use Rattle.description.specs.Format.{Description}
+use Rattle.description.specs.Declarations.{Description}
 use Rattle.security.specs.Masks.{masksOf}
 use Rattle.tables.specs.Building.{ownOf, termsOf, endsOf, startsOf, pairsOf, conflictsOf, wordsOf, bytesOf}
 use Rattle.tables.proofs.Places.{own-size, two-size, three-size, four-size}

@@ -12,7 +12,7 @@ use lib.Seq.{take-suc, take-all, getD-set-same, getD-set-other, ext-getD}
 use borrow.Author.Tests.{eq-eqb, ne-eqb}
 use Rattle.description.specs.declared.workflow.Edge.{Edge}
 use Rattle.description.specs.declared.workflow.Way.{Way}
-use Rattle.description.specs.Format.{Description, noEdge, edge, sameWay}
+use Rattle.description.specs.Declarations.{Description, noEdge, edge, sameWay}
 use Rattle.sequences.specs.Lists.{keep}
 use Rattle.sequences.proofs.Parts.{keep-append}
 use Rattle.sequences.specs.Arrays.{table}

@@ -11,7 +11,7 @@ use borrow.Author.Tests.{eq-eqb, ne-eqb}
 use Rattle.description.specs.declared.workflow.Edge.{Edge}
 use Rattle.description.specs.declared.workflow.Way.{Way}
 use Rattle.description.specs.declared.workflow.Way.the-variants.{Reads, Writes}
-use Rattle.description.specs.Format.{Description, noEdge}
+use Rattle.description.specs.Declarations.{Description, noEdge}
 use Rattle.description.specs.Invariants.{WellFormed}
 use Rattle.sequences.specs.Lists.{keep}
 use Rattle.sequences.proofs.Tests.{cond-ind}

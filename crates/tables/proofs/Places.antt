@@ -5,7 +5,7 @@ use mathlib.Core.Path.{_≡_, sym, ap, _∙_}
 use mathlib.Core.List.{List, [], _∷_, _++_}
 use lib.ListN.{length, getD, take, drop, length-append, List·getD-append}
 use lib.Seq.{getD-append-add, take-at, drop-at}
-use Rattle.description.specs.Format.{Description}
+use Rattle.description.specs.Declarations.{Description}
 use Rattle.security.specs.Masks.{masksOf}
 use Rattle.security.proofs.PermittedClouds.{masks-size}
 use Rattle.tables.specs.Building.{ownOf, termsOf, endsOf, startsOf, pairsOf, conflictsOf, wordsOf, bytesOf}

@@ -10,7 +10,7 @@ use lib.ListN.{length, getD}
 use borrow.Author.Tests.{lt-ltb, ne-eqb, ltb-true}
 use Rattle.description.specs.declared.workflow.Edge.{Edge}
 use Rattle.description.specs.declared.workflow.Way.the-variants.{Reads, Writes}
-use Rattle.description.specs.Format.{Description}
+use Rattle.description.specs.Declarations.{Description}
 use Rattle.description.specs.Invariants.{WellFormed}
 use Rattle.options.specs.Options.{writersOf, readersOf}
 use Rattle.options.specs.Representatives.{between, movesTo, exchanges, cheaperOn, standsByExchanges}

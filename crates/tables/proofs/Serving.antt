@@ -10,7 +10,7 @@ use lib.ListN.{length, getD, set, take, replicate, length-set, length-replicate}
 use lib.Seq.{take-all, getD-set-same, getD-set-other, ext-getD}
 use borrow.Author.Tests.{eq-eqb, eqb-true}
 use Rattle.description.specs.declared.workflow.Edge.{Edge}
-use Rattle.description.specs.Format.{Description, noEdge, edge}
+use Rattle.description.specs.Declarations.{Description, noEdge, edge}
 use Rattle.security.specs.Conflicts.{serves}
 use Rattle.sequences.specs.Lists.{any}
 use Rattle.sequences.proofs.Parts.{any-next}

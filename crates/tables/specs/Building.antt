@@ -13,7 +13,7 @@ use Rattle.description.specs.declared.workflow.Kind.{Kind}
 use Rattle.description.specs.declared.workflow.Kind.the-variants.{Datum, Service}
 use Rattle.description.specs.declared.workflow.Way.{Way}
 use Rattle.description.specs.declared.workflow.Way.the-variants.{Reads, Writes}
-use Rattle.description.specs.Format.{Description, cloud, block, edge, sameWay}
+use Rattle.description.specs.Declarations.{Description, cloud, block, edge, sameWay}
 use Rattle.security.specs.Masks.{masksOf}
 use Rattle.security.specs.Soundness.{mayStand}
 use Rattle.security.specs.Conflicts.{serves, conflicts}

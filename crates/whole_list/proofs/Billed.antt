@@ -8,7 +8,7 @@ use lib.Seq.{sets, take-add, getD-append-add, getD-drop, length-take-le}
 use Rattle.sequences.specs.Lists.{joined}
 use Rattle.sequences.proofs.Joined.{joined-append, joined-length, stored-behind}
 use Rattle.sequences.proofs.Loops.{rest}
-use Rattle.description.specs.Format.{Description}
+use Rattle.description.specs.Declarations.{Description}
 use Rattle.sorting.specs.Rows.{flat, pairs}
 use Rattle.sorting.proofs.Rows.{flat-none, flat-more, pairs-append, pairs-flat, flat-pairs, length-flat}
 use Rattle.whole_list.specs.Billing.{keyAt, billed, billedFront}

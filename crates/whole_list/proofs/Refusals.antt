@@ -6,7 +6,7 @@ use lib.ListN.{length}
 use lib.Dec.{leb}
 use Rattle.sequences.specs.Results.{ok, refused, RefusalWithin}
 use Rattle.sequences.proofs.Results.{within-more, within-cond, within-andThen}
-use Rattle.description.specs.Bytes.{Bytes}
+use Rattle.decoding.specs.Bytes.{Bytes}
 use Rattle.security.specs.Soundness.{read}
 use Rattle.security.proofs.Accepted.{read-admitted}
 use Rattle.security.proofs.Refusals.{read-within}

@@ -10,7 +10,7 @@ use Rattle.sequences.specs.Lists.{sort, joined}
 use Rattle.sequences.proofs.Agreeing.{map-agree}
 use Rattle.sequences.proofs.Joined.{joined-length}
 use Rattle.sequences.proofs.Sorting.{sort-map}
-use Rattle.description.specs.Format.{Description}
+use Rattle.description.specs.Declarations.{Description}
 use Rattle.security.specs.Accepted.{Admitted}
 use Rattle.costs.specs.declared.answers.Bill.{Bill}
 use Rattle.costs.specs.Cost.{billOf, cost}

@@ -3,7 +3,7 @@ use Prim.Native.Nat.{ℕ, _+_, _-_, _*_, _<_}
 use mathlib.Core.Path.{_≡_}
 use mathlib.Core.List.{List, [], _∷_, _++_, map}
 use lib.ListN.{length, getD, take, replicate}
-use Rattle.description.specs.Format.{Description}
+use Rattle.description.specs.Declarations.{Description}
 use Rattle.costs.specs.Cost.{billOf, cost}
 use Rattle.packing.specs.Packing.{digits}
 use Rattle.sequences.specs.Lists.{joined}

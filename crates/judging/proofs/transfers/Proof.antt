@@ -4,7 +4,7 @@ use lib.ListN.{length}
 use mathlib.Core.List.{List}
 use Prim.Native.Nat.{ℕ}
 use Rattle.description.specs.Meaning.{describes}
-use Rattle.description.specs.Format.{Description}
+use Rattle.description.specs.Declarations.{Description}
 use Rattle.costs.specs.Transfers.{Transfer, transfers, fitted, bufferAfter}
 use Rattle.costs.proofs.Transferring.{refused-leaves}
 use Rattle.judging.specs.Calls.{transfersCall}

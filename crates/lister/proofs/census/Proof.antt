@@ -1,6 +1,6 @@
 -- The census of what is accepted; a refusal is passed on.
 use mathlib.Core.Path.{sym, ap, _∙_}
-use Rattle.description.specs.Bytes.{Bytes}
+use Rattle.decoding.specs.Bytes.{Bytes}
 use Rattle.description.specs.Meaning.{describes}
 use Rattle.security.specs.Soundness.{read}
 use Rattle.security.proofs.Accepted.{read-admitted}

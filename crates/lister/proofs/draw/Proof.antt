@@ -1,8 +1,8 @@
 -- The row of what is accepted; a refusal is passed on.
 use mathlib.Core.Path.{sym, ap, _∙_}
 use mathlib.Core.Option.{Option}
-use Rattle.description.specs.Format.{Description}
-use Rattle.description.specs.Bytes.{Bytes}
+use Rattle.description.specs.Declarations.{Description}
+use Rattle.decoding.specs.Bytes.{Bytes}
 use Rattle.description.specs.Meaning.{describes}
 use Rattle.security.specs.Soundness.{read}
 use Rattle.security.proofs.Accepted.{read-admitted}

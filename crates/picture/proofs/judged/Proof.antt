@@ -1,6 +1,6 @@
 -- The verdict on what is accepted; a refusal is passed on.
 use mathlib.Core.Path.{_≡_, refl, sym, ap, _∙_}
-use Rattle.description.specs.Format.{Description}
+use Rattle.description.specs.Declarations.{Description}
 use Rattle.description.specs.Meaning.{describes}
 use Rattle.security.specs.declared.answers.Verdict.{Verdict}
 use Rattle.security.specs.declared.answers.Verdict.the-variants.{Secure, Refused}

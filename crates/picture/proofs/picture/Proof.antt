@@ -3,7 +3,7 @@ use mathlib.Core.Path.{sym, ap, _∙_}
 use mathlib.Core.List.{List}
 use Prim.Native.Nat.{ℕ}
 use lib.ListN.{length}
-use Rattle.description.specs.Format.{Description}
+use Rattle.description.specs.Declarations.{Description}
 use Rattle.description.specs.Meaning.{describes}
 use Rattle.sequences.specs.Results.{Result, andThen}
 use Rattle.picture.specs.Answers.{sizeOf, verdictOn}

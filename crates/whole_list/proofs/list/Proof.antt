@@ -1,7 +1,7 @@
 -- The list of what is accepted; a refusal is passed on.
 use mathlib.Core.Path.{sym, _∙_}
 use lib.ListN.{length}
-use Rattle.description.specs.Bytes.{Bytes}
+use Rattle.decoding.specs.Bytes.{Bytes}
 use Rattle.description.specs.Meaning.{describes}
 use Rattle.security.specs.Soundness.{read}
 use Rattle.security.proofs.Accepted.{read-admitted}

@@ -8,7 +8,7 @@ use lib.ListN.{length, drop}
 use borrow.Author.Needs.{needs}
 use borrow.Author.Tests.{ltb-true}
 use Rattle.description.specs.declared.workflow.Edge.{Edge}
-use Rattle.description.specs.Format.{Description, edge, noEdge}
+use Rattle.description.specs.Declarations.{Description, edge, noEdge}
 use Rattle.description.specs.Invariants.{WellFormed}
 use Rattle.description.specs.Meaning.{describes}
 use Rattle.costs.specs.Prices.{mostAmount, copyBy}

@@ -5,7 +5,7 @@ use mathlib.Core.Path.{ap, _∙_}
 use borrow.Author.Needs.{needs}
 use Rattle.description.specs.Meaning.{describes}
 use Rattle.description.specs.declared.workflow.Block.{Block}
-use Rattle.description.specs.Format.{Description, block}
+use Rattle.description.specs.Declarations.{Description, block}
 use Rattle.costs.specs.Cost.{chargedOf, monthsOf, unitsOf}
 use Rattle.costs.specs.Prices.{quantityOf, chargeAt, quantitiesOf}
 use Rattle.costs.proofs.Priced.{byRow, row-filled, no-quantity}

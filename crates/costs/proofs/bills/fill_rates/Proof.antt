@@ -5,7 +5,7 @@ use mathlib.Core.Path.{ap}
 use borrow.Author.Needs.{needs}
 use Rattle.description.specs.Meaning.{describes}
 use Rattle.description.specs.declared.workflow.Cloud.{Cloud}
-use Rattle.description.specs.Format.{Description, cloud}
+use Rattle.description.specs.Declarations.{Description, cloud}
 use Rattle.costs.specs.Prices.{rateOf, chargeAt, ratesOf}
 use Rattle.costs.proofs.Priced.{byRow, row-filled, no-rate}
 use Rattle.sequences.proofs.Filling.{Filled, fill-lent, fill-stops}

@@ -1,7 +1,7 @@
 -- Edge by edge, by the steps of `Transferring`.
 use mathlib.Core.Path.{subst, subst₂}
 use mathlib.Core.List.{[], _∷_}
-use Rattle.description.specs.Format.{edge}
+use Rattle.description.specs.Declarations.{edge}
 use lib.Seq.{sets}
 use mathlib.Core.Path.{_≡_, sym, ap, _∙_}
 use native.Mathlib.Omega.{arith}
@@ -11,7 +11,7 @@ use borrow.Author.Needs.{needs}
 use Rattle.description.specs.Meaning.{describes}
 use Prim.Native.Nat.{_+_}
 use Rattle.costs.proofs.Transferring.{bytes-length, Writing, begins, ends-at, ends, room, goes-on}
-use Rattle.description.specs.Format.{noEdge}
+use Rattle.description.specs.Declarations.{noEdge}
 use Rattle.costs.specs.Transfers.{transfers, transfersFrom, bytesOf}
 use Rattle.costs.proofs.transfer.put_transfers.Statement.{statement}
 use Rattle.costs.proofs.transfer.put_transfers.Tie as tie

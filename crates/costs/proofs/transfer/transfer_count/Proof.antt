@@ -10,7 +10,7 @@ use native.Mathlib.Nat.{zero-add}
 use mathlib.Core.Logic.{⊎-elim}
 use mathlib.Core.List.{[], _∷_}
 use lib.ListN.{length-append, drop-of-length-le}
-use Rattle.description.specs.Format.{noEdge}
+use Rattle.description.specs.Declarations.{noEdge}
 use Rattle.costs.proofs.Transferring.{from-next, moved-one, stayed-none}
 use Rattle.sequences.proofs.Loops.{told}
 use Rattle.costs.specs.Transfers.{transfers, transfersFrom}

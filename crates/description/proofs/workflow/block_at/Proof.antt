@@ -4,7 +4,7 @@ use mathlib.Core.Path.{ap, _∙_}
 use native.Mathlib.Omega.{arith}
 use Rattle.description.proofs.Arrays.{at-past}
 use Rattle.description.proofs.Puts.{record-inside}
-use Rattle.description.specs.Format.{noBlock}
+use Rattle.description.specs.Declarations.{noBlock}
 use Rattle.description.specs.Meaning.{describes}
 use Rattle.description.specs.Layout.{mostBlocks, firstBlock, counts, recordAt, part, toBlock}
 use Rattle.description.proofs.workflow.block_at.Statement.{statement}

@@ -4,7 +4,7 @@ use mathlib.Core.Path.{ap, _∙_}
 use native.Mathlib.Omega.{arith}
 use Rattle.description.proofs.Arrays.{at-past}
 use Rattle.description.proofs.Puts.{record-inside}
-use Rattle.description.specs.Format.{noCloud}
+use Rattle.description.specs.Declarations.{noCloud}
 use Rattle.description.specs.Meaning.{describes}
 use Rattle.description.specs.Layout.{mostClouds, firstCloud, counts, recordAt, part, toCloud}
 use Rattle.description.proofs.workflow.cloud_at.Statement.{statement}

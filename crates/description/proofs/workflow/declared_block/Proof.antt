@@ -3,7 +3,7 @@ use borrow.Author.Needs.{needs}
 use mathlib.Core.Path.{ap, _∙_}
 use native.Mathlib.Omega.{arith}
 use Rattle.description.proofs.Puts.{few-blocks, record-inside}
-use Rattle.description.specs.Format.{noBlock}
+use Rattle.description.specs.Declarations.{noBlock}
 use Rattle.description.specs.Meaning.{describes}
 use Rattle.description.specs.Layout.{mostBlocks, firstBlock, counts, recordAt, toBlock}
 use Rattle.description.proofs.workflow.declared_block.Statement.{statement}

@@ -4,7 +4,7 @@ use mathlib.Core.Path.{ap, _∙_}
 use native.Mathlib.Omega.{arith}
 use Rattle.description.proofs.Arrays.{at-past}
 use Rattle.description.proofs.Puts.{record-inside}
-use Rattle.description.specs.Format.{noEdge}
+use Rattle.description.specs.Declarations.{noEdge}
 use Rattle.description.specs.Meaning.{describes}
 use Rattle.description.specs.Layout.{mostEdges, firstEdge, counts, recordAt, part, toEdge}
 use Rattle.description.proofs.workflow.edge_at.Statement.{statement}

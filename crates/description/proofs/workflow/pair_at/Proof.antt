@@ -4,7 +4,7 @@ use mathlib.Core.Path.{ap, _∙_}
 use native.Mathlib.Omega.{arith}
 use Rattle.description.proofs.Arrays.{at-past}
 use Rattle.description.proofs.Puts.{record-inside}
-use Rattle.description.specs.Format.{noPair}
+use Rattle.description.specs.Declarations.{noPair}
 use Rattle.description.specs.Meaning.{describes}
 use Rattle.description.specs.Layout.{mostPairs, firstPair, counts, recordAt, part, toPair}
 use Rattle.description.proofs.workflow.pair_at.Statement.{statement}

@@ -4,7 +4,7 @@ use borrow.Author.Needs.{needs}
 use mathlib.Core.Path.{ap, ap₂, _∙_}
 use native.Mathlib.Omega.{arith}
 use Rattle.description.proofs.Puts.{one-more-cloud}
-use Rattle.description.specs.Format.{withCloud}
+use Rattle.description.specs.Declarations.{withCloud}
 use Rattle.description.specs.Meaning.{describes}
 use Rattle.description.specs.Layout.{counts, putRecord}
 use Rattle.description.specs.declared.words.Record.{Record}

@@ -3,7 +3,7 @@ use borrow.Author.Needs.{needs}
 use lib.ListN.{set}
 use mathlib.Core.Path.{ap, _∙_}
 use Rattle.description.proofs.Puts.{few-blocks, another-block}
-use Rattle.description.specs.Format.{pinned}
+use Rattle.description.specs.Declarations.{pinned}
 use Rattle.description.specs.Meaning.{describes}
 use Rattle.description.proofs.workflow.put_pin.Statement.{statement}
 use Rattle.description.proofs.workflow.put_pin.Tie as tie

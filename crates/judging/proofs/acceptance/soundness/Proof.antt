@@ -7,7 +7,7 @@ use Rattle.security.specs.Answers.{foundIn}
 use Rattle.description.specs.Meaning.{describes}
 use Rattle.security.specs.Soundness.{count}
 use Rattle.security.proofs.Sound.{breaks-rule2, breaks-rule3, breaks-rule4, too-many, keeps-all}
-use Rattle.description.specs.Format.{Description}
+use Rattle.description.specs.Declarations.{Description}
 use Rattle.judging.specs.declared.answers.Admission.{Admission}
 use Rattle.judging.specs.declared.answers.Admission.the-variants.{Refused}
 use Rattle.judging.specs.Answers.{admissionOf, counted, masksAfter}

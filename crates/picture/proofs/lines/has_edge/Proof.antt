@@ -6,7 +6,7 @@ use mathlib.Core.Path.{_≡_, refl, sym, _∙_}
 use native.Mathlib.Omega.{arith}
 use Rattle.sequences.proofs.Loops.{any-hit, any-miss, any-end, told}
 use Rattle.sequences.specs.Lists.{any}
-use Rattle.description.specs.Format.{noEdge}
+use Rattle.description.specs.Declarations.{noEdge}
 use Rattle.description.specs.Meaning.{describes}
 use Rattle.picture.specs.Picture.{touches, hasEdge}
 use Rattle.picture.proofs.lines.has_edge.Statement.{statement}

@@ -2,7 +2,7 @@
 use native.Mathlib.Omega.{arith}
 use mathlib.Core.Path.{sym, ap, ap₂, _∙_}
 use lib.ListN.{getD}
-use Rattle.description.specs.Format.{block}
+use Rattle.description.specs.Declarations.{block}
 use Rattle.description.specs.Meaning.{describes}
 use Rattle.list_text.specs.Lines.{ascii}
 use Rattle.list_text.proofs.Writing.{then-put}

@@ -6,7 +6,7 @@ use lib.ListN.{length}
 use borrow.Author.Needs.{needs}
 use Rattle.description.specs.Meaning.{describes}
 use Rattle.list_text.proofs.Writing.{Put}
-use Rattle.description.specs.Format.{edge}
+use Rattle.description.specs.Declarations.{edge}
 use Rattle.picture.specs.Picture.{pathOf, line, edgeLine, each}
 use Rattle.picture.specs.Sheets.{edgeRoom, edgesRoom}
 use Rattle.picture.proofs.Putting.{nothing-put, next-put, put-length, in-other-words}

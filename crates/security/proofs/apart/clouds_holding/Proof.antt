@@ -5,7 +5,7 @@ use mathlib.Core.Path.{_≡_, sym, ap, _∙_}
 use mathlib.Core.Logic.{⊎-elim}
 use lib.ListN.{length, getD, replicate}
 use borrow.Author.Needs.{needs}
-use Rattle.description.specs.Format.{edge}
+use Rattle.description.specs.Declarations.{edge}
 use Rattle.description.specs.Meaning.{describes}
 use Rattle.security.specs.HeldClouds.{marked}
 use Rattle.security.specs.Placements.{serviceCloud}

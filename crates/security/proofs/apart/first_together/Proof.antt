@@ -11,7 +11,7 @@ use Rattle.sequences.specs.Lists.{any, first, firstFrom, below}
 use Rattle.sequences.proofs.Counting.{getD-below, length-below}
 use Rattle.sequences.proofs.Loops.{any-hit, any-miss, any-end, first-hit, first-miss, first-end, told}
 use Rattle.description.specs.Meaning.{describes}
-use Rattle.description.specs.Format.{noPair}
+use Rattle.description.specs.Declarations.{noPair}
 use Rattle.security.specs.HeldClouds.{heldBy}
 use Rattle.security.specs.Placements.{holdsBoth, together}
 use Rattle.security.proofs.HeldClouds.{both-held}

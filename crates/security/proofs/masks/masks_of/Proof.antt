@@ -11,7 +11,7 @@ use lib.Count.{ones, ones-le}
 use lib.Dec.{lit<}
 use lib.ListN.{length, drop}
 use borrow.Author.Needs.{needs}
-use Rattle.description.specs.Format.{block}
+use Rattle.description.specs.Declarations.{block}
 use Rattle.description.specs.Meaning.{describes}
 use Rattle.description.proofs.Puts.{few-clouds}
 use Rattle.sequences.specs.Bits.{bits}

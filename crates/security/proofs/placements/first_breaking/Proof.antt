@@ -8,7 +8,7 @@ use Rattle.sequences.proofs.Loops.{first-hit, first-miss, first-end, told}
 use Rattle.description.specs.Meaning.{describes}
 use Rattle.sequences.specs.Lists.{first, firstFrom}
 use Rattle.security.specs.Answers.{breaksRule}
-use Rattle.description.specs.Format.{noEdge}
+use Rattle.description.specs.Declarations.{noEdge}
 use Rattle.security.proofs.placements.first_breaking.Statement.{statement}
 use Rattle.security.proofs.placements.first_breaking.Tie as tie
 

@@ -8,7 +8,7 @@ use Rattle.sequences.proofs.Loops.{first-hit, first-miss, first-end, told}
 use Rattle.description.specs.Meaning.{describes}
 use Rattle.sequences.specs.Lists.{first, firstFrom}
 use Rattle.security.specs.Soundness.{breaks2}
-use Rattle.description.specs.Format.{noBlock}
+use Rattle.description.specs.Declarations.{noBlock}
 use Rattle.security.proofs.soundness.first_breaking_rule2.Statement.{statement}
 use Rattle.security.proofs.soundness.first_breaking_rule2.Tie as tie
 

@@ -7,7 +7,7 @@ use borrow.Author.Needs.{needs}
 use Rattle.sequences.specs.Lists.{any}
 use Rattle.sequences.proofs.Loops.{any-hit, any-miss, any-end, told}
 use Rattle.description.specs.Meaning.{describes}
-use Rattle.description.specs.Format.{noPair, pair}
+use Rattle.description.specs.Declarations.{noPair, pair}
 use Rattle.security.specs.Conflicts.{conflictBy, conflicts}
 use Rattle.security.proofs.Holding.{conflicts-are}
 use Rattle.description.proofs.Named.{pair-blocks}

@@ -7,7 +7,7 @@ use mathlib.Core.Bool.{true}
 use mathlib.Core.List.{[], _∷_}
 use lib.ListN.{length, length-append, length-replicate}
 use borrow.Author.Needs.{needs}
-use Rattle.description.specs.Format.{Description}
+use Rattle.description.specs.Declarations.{Description}
 use Rattle.description.specs.Meaning.{describes}
 use Rattle.tables.specs.Building.{Listed, isConflict, conflictsTo, conflictList}
 use Rattle.tables.proofs.Conflicting.{conflicts-few}

@@ -1,0 +1,9 @@
+pub mod CommandBytes
+pub mod Commands
+pub mod Front
+pub mod Limits
+pub mod Outcomes
+pub mod Reading
+pub mod Refusals
+pub mod Steps
+pub mod Turns
