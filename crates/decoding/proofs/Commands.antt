@@ -14,26 +14,15 @@ use Rattle.sequences.proofs.Positions.{everywhere-snoc, everywhere-set}
 use Rattle.sequences.proofs.Tests.{cond-none, both-pass, or-fails}
 use Rattle.description.specs.declared.workflow.Cloud.{Cloud}
 use Rattle.description.specs.declared.workflow.Block.{Block}
-use Rattle.description.specs.declared.workflow.Kind.the-variants.{Datum, Service}
-use Rattle.description.specs.declared.workflow.Pin.the-variants.{Free}
 use Rattle.description.specs.declared.workflow.Way.{Way}
 use Rattle.description.specs.declared.workflow.Way.the-variants.{Reads, Writes}
 use Rattle.description.specs.Declarations.{Description, noCloud, noBlock, cloud as Format·cloud, block as Format·block, pinned, withCloud}
 use Rattle.description.specs.Declarations.{withBlock, withEdge, withPin, withPair, namesService, namesDatum, namesBlock, namesCloud}
 use Rattle.description.specs.Declarations.{isPinned}
-use Rattle.decoding.specs.Format.{clash, samePair, u8At, u16At, u32At, edgeIn, pairIn, Command, cloudAt}
+use Rattle.decoding.specs.Format.{clash, samePair, u8At, edgeIn, pairIn, Command, cloudAt}
 use Rattle.decoding.specs.Format.{datumAt, serviceAt, edgeAt, pinAt, pairAt, commandAt, firstFault, faultOf}
+use Rattle.decoding.specs.Commands.{cloudIn, datumIn, serviceIn}
 use Rattle.decoding.proofs.Turns.{each-command}
-
--- the cloud and the blocks that a command declares
-abbrev pub cloudIn : List ℕ → Cloud
-cloudIn s = record { label = u8At s 1; storage = u16At s 2; inward = u16At s 4; outward = u16At s 6; cpu = u16At s 8 }
-
-abbrev pub datumIn : List ℕ → Block
-datumIn s = record { label = u8At s 1; kind = Datum (u16At s 2) (u16At s 4); pin = Free }
-
-abbrev pub serviceIn : List ℕ → Block
-serviceIn s = record { label = u8At s 1; kind = Service (u8At s 2) (u32At s 3); pin = Free }
 
 -- ---- what is known of a command that is taken
 
@@ -84,7 +73,7 @@ module _ (s : List ℕ) (d : Description) where
 -- ---- from the faults, none of which it has
 
 -- every test of the list failed
-abbrev Faultless : List (ℕ × Bool) → Type 0
+abbrev pub Faultless : List (ℕ × Bool) → Type 0
 Faultless [] = Unit {0}
 Faultless (f ∷ fs) = (f .1 ≡ false) × Faultless fs
 

@@ -10,7 +10,6 @@ use mathlib.Core.Option.{Option, none, some, Option·some-ne-none}
 use lib.ListN.{length, getD, set, take, length-append, length-set, length-take}
 use lib.Seq.{take-all, getD-take}
 use lib.Dec.{ltb, eqb}
-use borrow.Author.Tests.{le-ltb}
 use Rattle.sequences.specs.Results.{Result, refused, andThen}
 use Rattle.sequences.proofs.Tests.{cond-none}
 use Rattle.decoding.specs.Bytes.{decidingBytes}
@@ -19,8 +18,10 @@ use Rattle.description.specs.declared.workflow.Way.{Way}
 use Rattle.description.specs.declared.workflow.Way.the-variants.{Reads, Writes}
 use Rattle.description.specs.Declarations.{Description, nothing, noBlock, pinned, isPinned, block}
 use Rattle.decoding.specs.Format.{u8At, edgeIn, edgeAt, pairIn, Command}
-use Rattle.decoding.specs.Format.{commandAt, faultOf, firstFault, ended, readFrom, inhabited, decode}
-use Rattle.decoding.proofs.Commands.{cloudIn, datumIn, serviceIn, cloud-taken, datum-taken, service-taken, edge-taken, pin-taken, pair-taken}
+use Rattle.decoding.specs.Format.{commandAt, faultOf, ended, readFrom, inhabited, decode}
+use Rattle.decoding.specs.Commands.{cloudIn, datumIn, serviceIn}
+use Rattle.decoding.proofs.Commands.{cloud-taken, datum-taken, service-taken, edge-taken, pin-taken, pair-taken}
+use Rattle.decoding.proofs.Prefix.{Agree, command-by, fault-by}
 use Rattle.decoding.proofs.Turns.{each-command, width-positive, width-few, ends, fails, goes}
 
 -- three bytes for the pin of each block that has none
@@ -67,11 +68,6 @@ spends s d =
     edge : (w : Way) → faultOf s (edgeAt w s d) ≡ none → left (edgeAt w s d .after) + 3 ≤ left d
     edge w e = let t = edge-taken s d w e in omega (arith, t .room, length-append (d .edges) (edgeIn w s ∷ []))
 
--- a command is what its first ten bytes say
-command-by : (s t : List ℕ) (d : Description) → ((i : ℕ) → i < 10 → u8At s i ≡ u8At t i) → commandAt s d ≡ commandAt t d
-command-by s t d h =
-    rw (h 0 (omega arith), h 1 (omega arith), h 2 (omega arith), h 3 (omega arith), h 4 (omega arith), h 5 (omega arith), h 6 (omega arith), h 7 (omega arith), h 8 (omega arith), h 9 (omega arith)) refl
-
 -- behind 00 there is a byte in both
 followed : (n : ℕ) (rest : List ℕ) (at : ℕ) (d : Description) → 0 < n → 0 < length rest
     → (ended (take n rest) at d ≡ refused 3 at) × (ended rest at d ≡ refused 3 at)
@@ -106,14 +102,17 @@ front (b ∷ rest) (suc n) zero at d h k =
     c : Command
     c = commandAt long d
 
+    few : c .width ≤ 10
+    few = width-few long d
+
+    agree : Agree long short (c .width)
+    agree i j = sym (getD-take (suc n) long i 0 (omega (arith, few)))
+
     same : commandAt short d ≡ c
-    same = command-by short long d (λ i j. getD-take (suc n) long i 0 (omega arith))
+    same = sym (command-by long short d agree)
 
     unfaulted : faultOf short (commandAt short d) ≡ faultOf long c
-    unfaulted =
-        let few = width-few long d in
-        let whole = le-ltb (length short) (c .width) (omega (arith, length-take n rest)) in
-        ap (faultOf short) same ∙ ap (λ z. cond z (some 1) (firstFault (c .faults))) (whole ∙ sym (le-ltb (length long) (c .width) (omega arith)))
+    unfaulted = sym (fault-by long short d agree (omega (arith, few)) (omega (arith, few, length-take n rest)))
 
     one : (z : Bool) (f : Option ℕ) → eqb b 0 ≡ z → faultOf long c ≡ f
         → (faultOf long c ≡ none → Refused (readFrom (take n rest) (pred (c .width)) (suc at) (c .after)) (readFrom rest (pred (c .width)) (suc at) (c .after)))

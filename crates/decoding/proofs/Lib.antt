@@ -3,7 +3,10 @@ pub mod Commands
 pub mod Front
 pub mod Limits
 pub mod Outcomes
+pub mod Plain
+pub mod Prefix
 pub mod Reading
 pub mod Refusals
 pub mod Steps
 pub mod Turns
+pub mod Written

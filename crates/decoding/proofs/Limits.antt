@@ -26,7 +26,8 @@ use Rattle.description.specs.Declarations.{Description, noBlock, noEdge, noPair
 use Rattle.decoding.specs.Format.{clash}
 use Rattle.decoding.specs.Format.{u8At, u16At, u32At, edgeIn, pairIn, decode}
 use Rattle.description.specs.Invariants.{Limits, WellFormed, InRange, RatesFit, lowClearance, pinBelow, kindFits}
-use Rattle.decoding.proofs.Commands.{EdgeTaken, PairTaken, Any, Keeps, each-cloud, each-block, datumIn, serviceIn}
+use Rattle.decoding.specs.Commands.{datumIn, serviceIn}
+use Rattle.decoding.proofs.Commands.{EdgeTaken, PairTaken, Any, Keeps, each-cloud, each-block}
 use Rattle.decoding.proofs.Reading.{decoded-bytes, decoded-any, declared}
 
 -- ---- the four limits
