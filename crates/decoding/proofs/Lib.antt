@@ -1,3 +1,4 @@
+pub mod BothFaults
 pub mod CommandBytes
 pub mod Commands
 pub mod Front

@@ -1,4 +1,6 @@
 pub mod Bytes
 pub mod Commands
 pub mod Format
+pub mod Inputs
+pub mod Order
 pub mod Steps

@@ -7,9 +7,10 @@ use Rattle.security.specs.Soundness.{breaks2, breaks3, breaks4, mayStand, choic
 use Rattle.security.specs.Placements.{moves, exposes, breaks16, breaks17, copies, holds, holdsBoth, together, badPosition, judge}
 use Rattle.costs.specs.Transfers.{transfers}
 use Rattle.judging.specs.Calls.{readCall, judgeCall, transfersCall}
+use Rattle.decoding.proofs.BothFaults.{in-order}
 use Rattle.judging.specs.Reached.{Reached}
 
--- each number is reached
+-- each number is reached, and they are given in their order
 pub reached : Reached
 unfolding
     samePair decode
@@ -33,5 +34,8 @@ reached = record {
   number14 = refl;
   number15 = refl;
   number16 = refl;
-  number17 = (refl, refl, refl, refl, refl);
+  number17 = (refl, refl, refl);
+  order1To8 = in-order;
+  order9To12 = (refl, refl, refl, refl);
+  order13To17 = (refl, refl, refl, refl, refl, refl);
 }

@@ -3,7 +3,7 @@ use Prim.Native.Nat.{ℕ}
 use mathlib.Core.Path.{_≡_}
 use mathlib.Core.List.{List, [], _∷_, _++_}
 use Rattle.judging.specs.Calls.{masksCall}
-use Rattle.judging.specs.Inputs.{cloud, datum, service, pin, end, times, flat, place, m}
+use Rattle.decoding.specs.Inputs.{cloud, datum, service, pin, end, times, flat, place, m}
 use Rattle.sequences.specs.Results.{ok, refused}
 
 -- three clouds of levels 2, 0 and 1

@@ -1,6 +1,5 @@
 pub mod Answers
 pub mod Calls
 pub mod Examples
-pub mod Inputs
 pub mod Marks
 pub mod Reached

@@ -3,7 +3,7 @@ use Prim.Native.Nat.{ℕ}
 use mathlib.Core.Path.{_≡_}
 use mathlib.Core.List.{List, _++_}
 use Rattle.judging.specs.Calls.{readCall, judgeCall, masksCall}
-use Rattle.judging.specs.Inputs.{cloud, datum, service, reads, writes, end, place}
+use Rattle.decoding.specs.Inputs.{cloud, datum, service, reads, writes, end, place}
 use Rattle.sequences.specs.Results.{ok, refused}
 
 -- Labels of the highest level that do not cover ones of level 0: no mark for the embargo mark, none for the source mark, and one mark for

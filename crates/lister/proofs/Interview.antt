@@ -3,7 +3,7 @@ use Prim.Native.Nat.{ℕ}
 use mathlib.Core.Path.{_≡_, refl, ap}
 use Rattle.description.specs.Declarations.{Description}
 use Rattle.decoding.specs.Format.{decode}
-use Rattle.judging.specs.Inputs.{flat}
+use Rattle.decoding.specs.Inputs.{flat}
 use Rattle.labels.specs.Labels.{covers}
 use Rattle.sequences.specs.Bits.{bit}
 use Rattle.security.specs.Soundness.{breaks2, breaks3, breaks4, mayStand, choicesOf, candidates, count, sound, read}

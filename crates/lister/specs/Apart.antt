@@ -2,7 +2,7 @@
 use mathlib.Core.Path.{_≡_}
 use mathlib.Core.List.{[], _∷_}
 use Rattle.judging.specs.Calls.{readCall, judgeCall}
-use Rattle.judging.specs.Inputs.{mApart, place}
+use Rattle.decoding.specs.Inputs.{mApart, place}
 use Rattle.security.specs.Soundness.{read}
 use Rattle.survey.specs.Rows.{rows}
 use Rattle.lister.specs.Calls.{censusCall}

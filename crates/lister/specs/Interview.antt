@@ -7,7 +7,7 @@ use mathlib.Core.Option.{none}
 use lib.ListN.{length}
 use Rattle.description.specs.Declarations.{Description}
 use Rattle.decoding.specs.Format.{decode}
-use Rattle.judging.specs.Inputs.{m, cloud, datum, end, flat, place}
+use Rattle.decoding.specs.Inputs.{m, cloud, datum, end, flat, place}
 use Rattle.security.specs.Soundness.{read, candidates}
 use Rattle.costs.specs.Cost.{gigabytes}
 use Rattle.options.specs.Options.{sameOption}

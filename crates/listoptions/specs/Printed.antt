@@ -9,7 +9,7 @@ use Rattle.description.specs.Declarations.{Description}
 use Rattle.security.specs.Soundness.{read}
 use Rattle.survey.specs.declared.Row.{Row}
 use Rattle.survey.specs.Rows.{rows}
-use Rattle.judging.specs.Inputs.{m, mApart}
+use Rattle.decoding.specs.Inputs.{m, mApart}
 use Rattle.list_text.specs.Lines.{ascii, rowLine, optionsLine, refusalLine}
 
 -- the lines of rows, one behind the other

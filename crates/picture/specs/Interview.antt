@@ -1,7 +1,7 @@
 -- Pictures stated of the bytes: description M, the interview file, and small inputs with blocks that have no edge.
 use mathlib.Core.Path.{_≡_}
 use mathlib.Core.List.{_++_}
-use Rattle.judging.specs.Inputs.{cloud, datum, service, reads, end, times, flat, m, mApart, place}
+use Rattle.decoding.specs.Inputs.{cloud, datum, service, reads, end, times, flat, m, mApart, place}
 use Rattle.list_text.specs.Lines.{ascii}
 use Rattle.sequences.specs.Results.{ok, refused}
 use Rattle.picture.specs.Calls.{pictureCall, sizeCall}
