@@ -59,7 +59,7 @@ module _ (d : Description) where
 abbrev breaks : Way → Description → List ℕ → Edge → Bool
 breaks way d p e = sameWay way (e .way) && exposes d p e
 
-same-way : (v w : Way) → (sameWay v w ≡ true) ↔ (w ≡ v)
+pub same-way : (v w : Way) → (sameWay v w ≡ true) ↔ (w ≡ v)
 same-way Reads Reads = (λ _. refl, λ _. refl)
 same-way Reads Writes = (λ t. absurd (false≢true t), λ e. absurd (true≢false (ap isWrite e)))
 same-way Writes Reads = (λ t. absurd (false≢true t), λ e. absurd (false≢true (ap isWrite e)))

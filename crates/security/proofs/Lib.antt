@@ -8,6 +8,7 @@ pub mod Judging
 pub mod Meeting
 pub mod Moves
 pub mod PermittedClouds
+pub mod ReadExactly
 pub mod Refusals
 pub mod Sound
 pub mod Standing

@@ -2,6 +2,7 @@ pub mod Accepted
 pub mod Answers
 pub mod Conflicts
 pub mod HeldClouds
+pub mod Lawful
 pub mod Masks
 pub mod Placements
 pub mod Soundness

@@ -14,6 +14,7 @@ use Rattle.sequences.specs.Ascending.{Ascending, Once}
 use Rattle.sequences.specs.Lists.{any, keep, distinctBy}
 use Rattle.sequences.specs.Orders.{Equivalence, Represented}
 use Rattle.sequences.proofs.Ascending.{keep-once}
+use Rattle.sequences.proofs.Equality.{Decides, alike-by}
 use Rattle.sequences.proofs.Members.{keep-members, any-members, none-members}
 use Rattle.sequences.proofs.Parts.{two-parts}
 use Rattle.sequences.proofs.Tests.{cond-ind, not-passed}
@@ -95,3 +96,10 @@ module _ {A : Type 0} {alike : A → A → Bool} (laws : Equivalence alike) wher
           let (i, s) = keep-members stands xs x .0 m in
           let (j, t) = keep-members stands xs y .0 n in
           k .unique x y i j s t)
+
+-- A list without repetitions is at most as long as one that has all its members: where equality is decided, those alike are one.
+pub once-fewer : {A : Type 0} {alike : A → A → Bool} → Decides alike → (xs ys : List A)
+    → Once xs → ((x : A) → List·Memᴰ x xs → List·Memᴰ x ys) → length xs ≤ length ys
+once-fewer decides xs ys once inside =
+    let laws = alike-by (λ x. x) decides in
+    no-more laws xs ys (once-unlike laws xs once (λ x y _ _ t. decides x y .0 t)) (λ x m. (x, inside x m, laws .reflexive x))

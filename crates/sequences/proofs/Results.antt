@@ -2,7 +2,7 @@
 use Prim.Native.Nat.{ℕ, _≤_, _<_}
 use native.Mathlib.Omega.{arith}
 use mathlib.Core.Path.{_≡_, refl, sym}
-use mathlib.Core.Logic.{_↔_}
+use mathlib.Core.Logic.{_↔_, _⊎_, inl, inr}
 use mathlib.Core.Bool.{Bool, true, false, cond}
 use mathlib.Core.Option.{Option, none, some, Option·some-ne-none}
 use Rattle.sequences.specs.Results.{Result, ok, refused, unless, andThen, RefusalWithin}
@@ -41,6 +41,15 @@ module _ {A B : Type 0} where
   pub andThen-ok : (r : Result A) (f : A → Result B) (b : B) → (andThen r f ≡ ok b) ↔ ((a : A) × (r ≡ ok a) × (f a ≡ ok b))
   andThen-ok (ok x) f b = (λ e. (x, refl, e), λ (a, e, h). let same : x ≡ a = cc in rw same h)
   andThen-ok (refused number place) f b = (λ e. absurd (ok-not-refused (sym e)), λ (a, e, h). absurd (ok-not-refused (sym e)))
+
+  -- a refusal of two calls in a row is the first's, or the second's, of the first's value
+  pub andThen-refused : (r : Result A) (f : A → Result B) (number place : ℕ)
+      → (andThen r f ≡ refused number place) ↔ ((r ≡ refused number place) ⊎ ((a : A) × (r ≡ ok a) × (f a ≡ refused number place)))
+  andThen-refused (ok x) f number place = (
+    λ e. inr (x, refl, e),
+    λ h. elim h [ inl e ↦ absurd (ok-not-refused e) | inr (a, e, k) ↦ let same : x ≡ a = cc in rw same k ],
+  )
+  andThen-refused (refused n q) f number place = (λ e. inl (cc), λ h. elim h [ inl e ↦ cc | inr (a, e, k) ↦ absurd (ok-not-refused (sym e)) ])
 
 -- ---- numbers and places within bounds
 
