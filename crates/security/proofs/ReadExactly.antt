@@ -16,9 +16,11 @@ use Rattle.description.specs.declared.workflow.Way.the-variants.{Reads, Writes}
 use Rattle.description.specs.Declarations.{Description, block, edge, noBlock, noEdge, isDatum, namesBlock}
 use Rattle.description.specs.Invariants.{WellFormed}
 use Rattle.decoding.specs.Bytes.{decidingBytes}
+use Rattle.decoding.specs.Commands.{Meets}
 use Rattle.decoding.specs.Format.{decode}
 use Rattle.decoding.proofs.Limits.{decoded-wellFormed}
 use Rattle.decoding.proofs.Refusals.{decode-within}
+use Rattle.decoding.proofs.Written.{decodes-exactly}
 use Rattle.labels.specs.Labels.{Covers, covers}
 use Rattle.labels.proofs.Covering.{covers-is}
 use Rattle.security.specs.Lawful.{Rule2, Rule3, Rule4, AllKept, FirstBroken, Keeps2, Keeps3, Keeps4, Candidates, Few, Many, Lawful}
@@ -258,6 +260,13 @@ module _ (s : List ℕ) where
         let wf = decoded-wellFormed s d e in
         read-decoded s e
         ∙ keeps-all d (none2 d wf .1 (l .rule2)) (none3 d wf .1 (l .rule3)) (none4 d wf .1 (l .rule4)) (is-few d wf .1 (l .few)),
+  )
+
+  -- EVERY DESCRIPTION THAT MEETS THE FORMAT AND THE RULES IS ACCEPTED, and no other bytes are.
+  pub read-exactly : (d : Description) → (read s ≡ ok d) ↔ (Meets s d × Lawful d)
+  read-exactly d = Iff·trans (read-accepts d) (
+    λ (e, lawful). (decodes-exactly s d .0 e, lawful),
+    λ (meets, lawful). (decodes-exactly s d .1 meets, lawful),
   )
 
   -- 1 to 8 where decoding refuses, and as it does.
