@@ -7,7 +7,6 @@ use crate::output::put_clouds;
 use crate::output::put_hex;
 use crate::output::put_number;
 use costs::answers::Bill;
-use costs::answers::Transferred;
 use description::workflow::Refusal;
 use judging::answers::Acceptance;
 use judging::answers::Masked;
@@ -18,6 +17,7 @@ use picture::Pictured;
 use security::answers::Verdict;
 use survey::Figures;
 use survey::Row;
+use transfer_list::Transferred;
 
 pub fn put_acceptance(out: &mut Buffer, at: usize, a: Acceptance) -> usize
     requires { ⌜ at + words ≤ size ⌝ }

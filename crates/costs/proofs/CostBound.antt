@@ -16,12 +16,12 @@ use Rattle.description.specs.Declarations.{Description, cloud, block}
 use Rattle.decoding.specs.Bytes.{Bytes}
 use Rattle.description.specs.Invariants.{RatesFit, kindFits, InRange, Bounded}
 use Rattle.security.specs.Soundness.{read}
-use Rattle.costs.specs.Transfers.{Transfer, transfers}
+use Rattle.transfer_list.specs.Transfers.{Transfer, transfers}
 use Rattle.weights.specs.Weights.{costLimit}
 use Rattle.costs.specs.Cost.{gigabytes, chargedOf, monthsOf, unitsOf, storageOf, copyOf, cpuOf, transferCost, copyCost}
 use Rattle.costs.specs.Cost.{ofBlocks, billOf, total, cost, AmountsBelow}
 use Rattle.costs.proofs.Rounding.{charge-nearest}
-use Rattle.costs.proofs.Transferring.{transfers-few}
+use Rattle.transfer_list.proofs.Transferring.{transfers-few}
 use Rattle.security.proofs.Accepted.{read-bounded}
 
 -- ---- one term

@@ -11,7 +11,7 @@ use Rattle.description.specs.declared.workflow.Kind.{Kind}
 use Rattle.description.specs.Declarations.{Description, cloud, block, isWrite}
 use Rattle.security.specs.Placements.{serviceCloud, datumCloud}
 use Rattle.security.proofs.Moves.{moves-apart}
-use Rattle.costs.specs.Transfers.{transferOf}
+use Rattle.transfer_list.specs.Transfers.{transferOf}
 use Rattle.costs.specs.Cost.{chargedOf, storageOf, cpuOf, copyOf, transferCost, copyCost, ofBlocks, cost, edgeCost}
 use Rattle.costs.specs.Terms.{edgeCharge}
 use Rattle.costs.proofs.Transferring.{transfers-by-edge}

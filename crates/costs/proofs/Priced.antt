@@ -25,7 +25,7 @@ use Rattle.costs.specs.declared.answers.Charge.the-variants.{Storage, Co
 use Rattle.costs.specs.Answers.{amountOf}
 use Rattle.costs.specs.Cost.{gigabytes, copyCost, ofBlock}
 use Rattle.costs.specs.Prices.{rateOf, quantityOf, columnOf, chargeAt, ratesOf, quantitiesOf, amountBy, blocksBy, copyBy}
-use Rattle.costs.specs.Transfers.{transferOf, transfers}
+use Rattle.transfer_list.specs.Transfers.{transferOf, transfers}
 use Rattle.costs.proofs.Rounding.{charge-nearest}
 use Rattle.costs.proofs.Transferring.{copies-by-edge}
 

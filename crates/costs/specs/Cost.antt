@@ -12,7 +12,7 @@ use Rattle.description.specs.declared.workflow.Edge.{Edge}
 use Rattle.description.specs.Declarations.{Description, cloud, block}
 use Rattle.security.specs.Placements.{moves}
 use Rattle.costs.specs.declared.answers.Bill.{Bill}
-use Rattle.costs.specs.Transfers.{Transfer, transferOf, transfers}
+use Rattle.transfer_list.specs.Transfers.{Transfer, transferOf, transfers}
 use Rattle.sequences.specs.Lists.{below, sum}
 use Rattle.weights.specs.Weights.{costLimit}
 

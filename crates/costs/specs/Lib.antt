@@ -2,4 +2,3 @@ pub mod Answers
 pub mod Cost
 pub mod Prices
 pub mod Terms
-pub mod Transfers

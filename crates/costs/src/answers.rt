@@ -1,10 +1,4 @@
-// What Transfers answers, the charges by name, and a bill.
-use description::workflow::Refusal;
-
-pub enum Transferred {
-    Count(usize),
-    Refused(Refusal),
-}
+// The charges by name, and a bill.
 
 // What a block is charged for on a cloud: a datum for its storage or for that of a copy, a service for its computing.
 pub enum Charge {

@@ -1,6 +1,5 @@
-// The transfers that a placement makes, and what it costs.
+// What a placement costs.
 pub mod answers;
 pub mod bills;
 pub mod cost;
 pub mod terms;
-pub mod transfer;

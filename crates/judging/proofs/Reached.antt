@@ -5,7 +5,7 @@ use Rattle.labels.specs.Labels.{covers}
 use Rattle.sequences.specs.Bits.{bit}
 use Rattle.security.specs.Soundness.{breaks2, breaks3, breaks4, mayStand, choicesOf, count, sound, read}
 use Rattle.security.specs.Placements.{moves, exposes, breaks16, breaks17, copies, holds, holdsBoth, together, badPosition, judge}
-use Rattle.costs.specs.Transfers.{transfers}
+use Rattle.transfer_list.specs.Transfers.{transfers}
 use Rattle.judging.specs.Calls.{readCall, judgeCall, transfersCall}
 use Rattle.decoding.proofs.BothFaults.{in-order}
 use Rattle.judging.specs.Reached.{Reached}

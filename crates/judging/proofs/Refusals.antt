@@ -14,8 +14,8 @@ use Rattle.security.specs.Soundness.{read}
 use Rattle.security.specs.Placements.{judge}
 use Rattle.security.proofs.Accepted.{read-wellFormed}
 use Rattle.security.proofs.Refusals.{read-within, judged-within}
-use Rattle.costs.specs.Transfers.{transfers, bytesOf, fitted}
-use Rattle.costs.proofs.Transferring.{bytes-length, transfers-few}
+use Rattle.transfer_list.specs.Transfers.{transfers, bytesOf, fitted}
+use Rattle.transfer_list.proofs.Transferring.{bytes-length, transfers-few}
 use Rattle.judging.specs.Calls.{countsOf, readCall, masksCall, judgeCall, transfersCall}
 
 -- 128 bytes hold the transfers of any placement

@@ -6,7 +6,7 @@ use Rattle.description.specs.Declarations.{Description}
 use Rattle.security.specs.Masks.{masksOf}
 use Rattle.security.specs.Soundness.{read}
 use Rattle.security.specs.Placements.{judge}
-use Rattle.costs.specs.Transfers.{Transfer, transfers, fitted}
+use Rattle.transfer_list.specs.Transfers.{Transfer, transfers, fitted}
 use Rattle.sequences.specs.Results.{Result, ok, andThen}
 
 -- the counts of clouds, blocks and edges

@@ -4,9 +4,9 @@ ghost use lib.ListN.{length};
 ghost use Rattle.sequences.specs.Results.{ok, andThen};
 ghost use Rattle.judging.specs.Answers.{readAnswer, maskedAnswer, masksAfter};
 ghost use Rattle.security.specs.Answers.{judgeAnswer};
-ghost use Rattle.costs.specs.Answers.{transfersAnswer};
+ghost use Rattle.transfer_list.specs.Answers.{transfersAnswer};
 ghost use Rattle.judging.specs.Calls.{readCall, masksCall, judgeCall, transfersCall};
-ghost use Rattle.costs.specs.Transfers.{bufferAfter};
+ghost use Rattle.transfer_list.specs.Transfers.{bufferAfter};
 
 pub mod acceptance;
 pub mod answers;
@@ -14,7 +14,6 @@ pub mod answers;
 use answers::Acceptance;
 use answers::Admission;
 use answers::Masked;
-use costs::answers::Transferred;
 use description::words::WORDS;
 use description::workflow::block_count;
 use description::workflow::cloud_count;
@@ -22,6 +21,7 @@ use description::workflow::edge_count;
 use security::answers::Verdict;
 use security::masks::Masks;
 use security::masks::POSITIONS;
+use transfer_list::Transferred;
 
 // Read: the counts of clouds, blocks and edges of an accepted description, or its first refusal.
 pub fn read(description: &[u8]) -> Acceptance
@@ -78,7 +78,7 @@ pub fn transfers(description: &[u8], placement: [u8; 16], buffer: &mut [u8]) -> 
     let mut masks = [0u8; POSITIONS];
     let admission = acceptance::accept_with_masks(description, &mut w, &mut masks);
     match admission {
-        Admission::Accepted(_) => costs::transfer::written_if_secure(&w, &masks, placement, buffer),
+        Admission::Accepted(_) => transfer_list::written_if_secure(&w, &masks, placement, buffer),
         Admission::Refused(r) => Transferred::Refused(r),
     }
 }

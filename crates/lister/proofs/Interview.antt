@@ -8,7 +8,7 @@ use Rattle.labels.specs.Labels.{covers}
 use Rattle.sequences.specs.Bits.{bit}
 use Rattle.security.specs.Soundness.{breaks2, breaks3, breaks4, mayStand, choicesOf, candidates, count, sound, read}
 use Rattle.security.specs.Placements.{moves, exposes, breaks16, breaks17, brokenApart, badPosition, judge}
-use Rattle.costs.specs.Transfers.{transfers}
+use Rattle.transfer_list.specs.Transfers.{transfers}
 use Rattle.costs.specs.Cost.{gigabytes, cost}
 use Rattle.options.specs.Options.{option, sameOption}
 use Rattle.judging.specs.Calls.{readCall, judgeCall}

@@ -5,7 +5,7 @@ use Rattle.labels.specs.Labels.{covers}
 use Rattle.sequences.specs.Bits.{bit}
 use Rattle.security.specs.Soundness.{breaks2, breaks3, breaks4, mayStand, choicesOf, candidates, count, sound, read}
 use Rattle.security.specs.Placements.{moves, exposes, breaks16, breaks17, copies, holds, holdsBoth, together, brokenApart}
-use Rattle.costs.specs.Transfers.{transfers}
+use Rattle.transfer_list.specs.Transfers.{transfers}
 use Rattle.costs.specs.Cost.{gigabytes, cost}
 use Rattle.options.specs.Options.{option, sameOption}
 use Rattle.survey.specs.Rows.{securePlacements, stands, rows}

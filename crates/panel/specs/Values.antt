@@ -4,7 +4,7 @@ use mathlib.Core.List.{List, [], _∷_}
 use mathlib.Core.Option.{Option, none, some}
 use lib.ListN.{length}
 use Rattle.judging.specs.Calls.{Counts}
-use Rattle.costs.specs.Transfers.{Transfer}
+use Rattle.transfer_list.specs.Transfers.{Transfer}
 use Rattle.survey.specs.declared.Row.{Row}
 use Rattle.lister.specs.Answers.{rowBeside}
 use Rattle.survey.specs.Rows.{Census}

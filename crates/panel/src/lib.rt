@@ -5,9 +5,9 @@ ghost use Prim.Native.Nat.{_-_, _^_, min};
 ghost use lib.ListN.{length};
 ghost use Rattle.judging.specs.Answers.{readAnswer, maskedAnswer, masksAfter};
 ghost use Rattle.security.specs.Answers.{judgeAnswer};
-ghost use Rattle.costs.specs.Answers.{transfersAnswer};
+ghost use Rattle.transfer_list.specs.Answers.{transfersAnswer};
 ghost use Rattle.judging.specs.Calls.{readCall, masksCall, judgeCall, transfersCall};
-ghost use Rattle.costs.specs.Transfers.{bufferAfter};
+ghost use Rattle.transfer_list.specs.Transfers.{bufferAfter};
 ghost use Rattle.picture.specs.Answers.{pictureAnswer};
 ghost use Rattle.picture.specs.Calls.{pictureCall, sizeCall, bufferAfter as pictureAfter};
 ghost use Rattle.lister.specs.Answers.{censusAnswer, drawAnswer};
@@ -15,7 +15,6 @@ ghost use Rattle.lister.specs.Calls.{censusCall, drawCall};
 ghost use Rattle.whole_list.specs.WholeList.{capacity, listAnswer, listCall, rowsAfter, scratchAfter};
 ghost use Rattle.panel.specs.Statuses.{highestPlace, refusalStatus, status, valuesAfter};
 ghost use Rattle.panel.specs.Values.{counts as countValues, transferCount, byteCount, figures as figureValues, rowOrNone, rowBytes, extent as extentValues, one};
-use costs::answers::Transferred;
 use description::workflow::Refusal;
 use judging::answers::Acceptance;
 use judging::answers::Masked;
@@ -25,6 +24,7 @@ use lister::Drawn;
 use picture::Pictured;
 use security::answers::Verdict;
 use survey::Cursor;
+use transfer_list::Transferred;
 use whole_list::Listed;
 
 // A place has 56 bits of a status, and this is the highest of them: 2^56 - 1.

@@ -5,8 +5,8 @@ use mathlib.Core.List.{List}
 use Prim.Native.Nat.{ℕ}
 use Rattle.description.specs.Meaning.{describes}
 use Rattle.description.specs.Declarations.{Description}
-use Rattle.costs.specs.Transfers.{Transfer, transfers, fitted, bufferAfter}
-use Rattle.costs.proofs.Transferring.{refused-leaves}
+use Rattle.transfer_list.specs.Transfers.{Transfer, transfers, fitted, bufferAfter}
+use Rattle.transfer_list.proofs.Transferring.{refused-leaves}
 use Rattle.judging.specs.Calls.{transfersCall}
 use Rattle.judging.proofs.Admissions.{is-accepted, is-refused, masks-accepted}
 use Rattle.sequences.specs.Results.{Result, ok, andThen}

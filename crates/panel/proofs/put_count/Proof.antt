@@ -1,6 +1,6 @@
 -- Each kind of answer to Transfers has its status, and only what is written its count.
 use mathlib.Core.Path.{refl, sym, ap}
-use Rattle.costs.specs.Answers.{transfersAnswer}
+use Rattle.transfer_list.specs.Answers.{transfersAnswer}
 use Rattle.panel.specs.Values.{one}
 use Rattle.panel.proofs.Told.{told}
 use borrow.Author.Needs.{needs}

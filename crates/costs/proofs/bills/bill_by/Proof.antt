@@ -7,7 +7,7 @@ use Rattle.description.specs.Meaning.{describes}
 use Rattle.costs.specs.declared.answers.Charge.the-variants.{Storage, Cpu}
 use Rattle.costs.specs.Cost.{storageOf, cpuOf, copyCost, ofBlock, ofBlocks, storageAmount, transferAmount, cpuAmount}
 use Rattle.costs.specs.Prices.{blocksBy, copyBy}
-use Rattle.costs.specs.Transfers.{transfers}
+use Rattle.transfer_list.specs.Transfers.{transfers}
 use Rattle.sequences.specs.Lists.{below, sum}
 use Rattle.costs.proofs.CostBound.{cost-total}
 use Rattle.costs.proofs.Priced.{blocks-priced, copies-priced}

@@ -8,10 +8,10 @@ use borrow.Author.Tests.{le-leb, lt-leb}
 use lib.Dec.{leb}
 use lib.ListN.{length}
 use Rattle.description.specs.Meaning.{describes}
-use Rattle.costs.specs.Transfers.{transfers, bytesOf}
-use Rattle.costs.proofs.Transferring.{bytes-length, transfers-few}
-use Rattle.costs.proofs.transfer.missing.Statement.{statement}
-use Rattle.costs.proofs.transfer.missing.Tie as tie
+use Rattle.transfer_list.specs.Transfers.{transfers, bytesOf}
+use Rattle.transfer_list.proofs.Transferring.{bytes-length, transfers-few}
+use Rattle.transfer_list.proofs.missing.Statement.{statement}
+use Rattle.transfer_list.proofs.missing.Tie as tie
 
 -- what there is room for lacks nothing
 fits : (n room : ℕ) → n ≤ room → 0 ≡ cond (leb n room) 0 n

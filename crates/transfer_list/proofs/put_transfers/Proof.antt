@@ -10,11 +10,11 @@ use lib.ListN.{length, getD}
 use borrow.Author.Needs.{needs}
 use Rattle.description.specs.Meaning.{describes}
 use Prim.Native.Nat.{_+_}
-use Rattle.costs.proofs.Transferring.{bytes-length, Writing, begins, ends-at, ends, room, goes-on}
+use Rattle.transfer_list.proofs.Transferring.{bytes-length, Writing, begins, ends-at, ends, room, goes-on}
 use Rattle.description.specs.Declarations.{noEdge}
-use Rattle.costs.specs.Transfers.{transfers, transfersFrom, bytesOf}
-use Rattle.costs.proofs.transfer.put_transfers.Statement.{statement}
-use Rattle.costs.proofs.transfer.put_transfers.Tie as tie
+use Rattle.transfer_list.specs.Transfers.{transfers, transfersFrom, bytesOf}
+use Rattle.transfer_list.proofs.put_transfers.Statement.{statement}
+use Rattle.transfer_list.proofs.put_transfers.Tie as tie
 
 abbrev Inv-loop : tie.InvT-loop
 Inv-loop w placement buffer₀ n at₀ i₀ buffer at i =

@@ -8,12 +8,11 @@ ghost use lib.ListN.{length, drop};
 ghost use lib.Seq.{sets};
 ghost use Rattle.sequences.specs.Results.{ok, andThen};
 ghost use Rattle.description.specs.Meaning.{describes};
-ghost use Rattle.costs.specs.Answers.{transfersAnswer};
-ghost use Rattle.costs.specs.Transfers.{fitted, bufferAfter};
+ghost use Rattle.transfer_list.specs.Answers.{transfersAnswer};
+ghost use Rattle.transfer_list.specs.Transfers.{fitted, bufferAfter};
 ghost use Rattle.security.specs.Masks.{masksOf};
 ghost use Rattle.security.specs.Placements.{judge};
-ghost use Rattle.costs.specs.Transfers.{source, destination, transfers, transfersFrom, bytesOf};
-use crate::answers::Transferred;
+ghost use Rattle.transfer_list.specs.Transfers.{source, destination, transfers, transfersFrom, bytesOf};
 use description::words::Words;
 use description::workflow::Edge;
 use description::workflow::Refusal;
@@ -26,6 +25,11 @@ use security::placements::cloud_of;
 use security::placements::moves;
 use security::placements::verdict;
 use sequences::wide;
+
+pub enum Transferred {
+    Count(usize),
+    Refused(Refusal),
+}
 
 // The number that a buffer is refused with.
 const SHORT_BUFFER: u8 = 16;

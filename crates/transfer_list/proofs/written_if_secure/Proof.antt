@@ -3,13 +3,13 @@ use mathlib.Core.Path.{sym, ap, _∙_}
 use lib.ListN.{length}
 use Rattle.description.specs.Meaning.{describes}
 use mathlib.Core.List.{List}
-use Rattle.costs.specs.Transfers.{Transfer, transfers}
-use Rattle.costs.specs.Transfers.{fitted, bufferAfter}
+use Rattle.transfer_list.specs.Transfers.{Transfer, transfers}
+use Rattle.transfer_list.specs.Transfers.{fitted, bufferAfter}
 use Rattle.sequences.specs.Results.{ok, andThen}
 use Rattle.security.specs.Answers.{judgeAnswer}
 use borrow.Author.Needs.{needs}
-use Rattle.costs.proofs.transfer.written_if_secure.Statement.{statement}
-use Rattle.costs.proofs.transfer.written_if_secure.Tie as tie
+use Rattle.transfer_list.proofs.written_if_secure.Statement.{statement}
+use Rattle.transfer_list.proofs.written_if_secure.Tie as tie
 
 verdict-requires : tie.Need-verdict-requires
 verdict-requires c κs = search needs

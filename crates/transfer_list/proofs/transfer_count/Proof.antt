@@ -11,12 +11,12 @@ use mathlib.Core.Logic.{⊎-elim}
 use mathlib.Core.List.{[], _∷_}
 use lib.ListN.{length-append, drop-of-length-le}
 use Rattle.description.specs.Declarations.{noEdge}
-use Rattle.costs.proofs.Transferring.{from-next, moved-one, stayed-none}
+use Rattle.transfer_list.proofs.Transferring.{from-next, moved-one, stayed-none}
 use Rattle.sequences.proofs.Loops.{told}
-use Rattle.costs.specs.Transfers.{transfers, transfersFrom}
+use Rattle.transfer_list.specs.Transfers.{transfers, transfersFrom}
 use Rattle.security.specs.Placements.{moves}
-use Rattle.costs.proofs.transfer.transfer_count.Statement.{statement}
-use Rattle.costs.proofs.transfer.transfer_count.Tie as tie
+use Rattle.transfer_list.proofs.transfer_count.Statement.{statement}
+use Rattle.transfer_list.proofs.transfer_count.Tie as tie
 
 abbrev Inv-loop : tie.InvT-loop
 Inv-loop w placement n found₀ i₀ found i =

@@ -1,8 +1,8 @@
 -- Each return by the way of the edge.
 use mathlib.Core.Path.{sym, _∙_}
 use borrow.Author.Needs.{needs}
-use Rattle.costs.proofs.transfer.destination_of.Statement.{statement}
-use Rattle.costs.proofs.transfer.destination_of.Tie as tie
+use Rattle.transfer_list.proofs.destination_of.Statement.{statement}
+use Rattle.transfer_list.proofs.destination_of.Tie as tie
 
 is-write-requires : tie.Need-is-write-requires
 is-write-requires c κs = search needs

@@ -8,8 +8,8 @@ use Prim.Native.Nat.{_+_}
 use lib.ListN.{length-set}
 use native.Mathlib.Numerals.{add-one, add-two, add-three}
 use borrow.Author.Needs.{needs}
-use Rattle.costs.proofs.transfer.put_transfer.Statement.{statement}
-use Rattle.costs.proofs.transfer.put_transfer.Tie as tie
+use Rattle.transfer_list.proofs.put_transfer.Statement.{statement}
+use Rattle.transfer_list.proofs.put_transfer.Tie as tie
 
 moves-requires : tie.Need-moves-requires
 moves-requires c κs = search needs

@@ -4,13 +4,13 @@ use mathlib.Core.List.{List}
 use Prim.Native.Nat.{ℕ}
 use lib.ListN.{length}
 use Rattle.description.specs.Meaning.{describes}
-use Rattle.costs.specs.Transfers.{Transfer, transfers, bytesOf, bufferAfter}
+use Rattle.transfer_list.specs.Transfers.{Transfer, transfers, bytesOf, bufferAfter}
 use Rattle.sequences.specs.Results.{Result, ok, refused, andThen}
 use Rattle.sequences.proofs.Tests.{none-missing, some-missing}
-use Rattle.costs.proofs.Transferring.{too-short, long-enough}
+use Rattle.transfer_list.proofs.Transferring.{too-short, long-enough}
 use borrow.Author.Needs.{needs}
-use Rattle.costs.proofs.transfer.written.Statement.{statement}
-use Rattle.costs.proofs.transfer.written.Tie as tie
+use Rattle.transfer_list.proofs.written.Statement.{statement}
+use Rattle.transfer_list.proofs.written.Tie as tie
 
 missing-requires : tie.Need-missing-requires
 missing-requires c κs = search needs
