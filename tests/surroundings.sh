@@ -1,6 +1,6 @@
 #!/bin/sh
-# The programs where input or output is not as it should be: nothing there, closed, full, a folder, ten megabytes of random bytes; and
-# the longest list where there is little stack.
+# The programs where input or output is not as it should be: nothing there, closed, full, a folder, a read that fails, ten megabytes of random
+# bytes; and where there is little stack.
 # Each must end by itself (20 seconds are for a machine that is busy) and without a crash, with the answer or the error line that is written down here.
 #
 #   tests/surroundings.sh [FOLDER]        the programs are in FOLDER, or else in target/bin
@@ -83,6 +83,9 @@ run listoptions <&- >"$work/out"
 settle 'listoptions on closed input' '' 'listoptions: standard input: '
 run listoptions <"$work" >"$work/out"
 settle 'listoptions on a folder' '' 'listoptions: standard input: '
+# Of this shell's memory nothing is mapped at address 0, where the first read begins.
+run listoptions </proc/self/mem >"$work/out"
+settle 'listoptions on memory that is not there' '' 'listoptions: standard input: '
 
 # Input without any case gives no line.
 run callcases </dev/null >"$work/out"
@@ -93,6 +96,11 @@ run callcases <&- >"$work/out"
 settle 'callcases on closed input' '' 'callcases: standard input: '
 run callcases <"$work" >"$work/out"
 settle 'callcases on a folder' '' 'callcases: standard input: '
+run callcases </proc/self/mem >"$work/out"
+settle 'callcases on memory that is not there' '' 'callcases: standard input: '
+
+# The first bytes come, and the next read fails.
+python3 tests/failing_reads.py "$bin"
 
 # What cannot be written is said on standard error, once.
 : >"$work/out"
@@ -143,6 +151,15 @@ bad case
 run callcases <"$work/cases" >"$work/out"
 answers=$(python3 tests/bruteforce.py answer <"$work/cases")
 settle 'callcases on random descriptions' "$answers
+" ''
+
+# The other programs need less stack than the longest list.
+answers=$(cat examples/interview.answers)
+run_with_stack 4096 callcases <examples/interview.cases >"$work/out"
+settle 'callcases with 4096 kilobytes of stack' "$answers
+" ''
+run_with_stack 4096 labeltable </dev/null >"$work/out"
+settle 'labeltable with 4096 kilobytes of stack' "$table
 " ''
 
 # The longest list is printed whole where the stack is small, and where it is as usual.

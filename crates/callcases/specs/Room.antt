@@ -3,7 +3,7 @@ use Prim.Native.Nat.{ℕ, _+_, _≤_}
 use Rattle.callcases.specs.declared.Turn.{Turn}
 use Rattle.callcases.specs.declared.Turn.the-variants.{Next, End}
 use Rattle.callcases.specs.declared.cases.Reply.{Reply}
-use Rattle.callcases.specs.declared.cases.Reply.the-variants.{Line, Bad}
+use Rattle.callcases.specs.declared.cases.Reply.the-variants.{Line, Bad, Failed}
 
 -- a buffer
 abbrev pub size : ℕ
@@ -25,6 +25,7 @@ words = 160
 abbrev pub Within : Reply → Type 0
 Within (Line end) = end ≤ size
 Within Bad = Unit {0}
+Within Failed = Unit {0}
 
 -- there is room for the next line
 abbrev pub Roomy : Turn → Type 0

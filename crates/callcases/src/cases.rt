@@ -5,6 +5,7 @@ ghost use lib.ListN.{length};
 ghost use Rattle.callcases.specs.Room.{size, line, words, mostLent, Within};
 use crate::buffer::Buffer;
 use crate::buffer::MOST_LENT;
+use crate::input::Part;
 use crate::input::be16;
 use crate::input::be64;
 use crate::input::read_all;
@@ -20,10 +21,21 @@ use crate::output::put;
 use crate::output::put_hex;
 use survey::Cursor;
 
-// The offset behind a case's line in the output, or that it is no case.
+// The offset behind a case's line in the output, or that it is no case, or that a read failed.
 pub enum Reply {
     Line(usize),
     Bad,
+    Failed,
+}
+
+// The reply to a case of which a part is missing.
+pub fn without(part: Part) -> Reply
+    ensures { λ r. ⌜ Within r ⌝ }
+{
+    match part {
+        Part::Failed => Reply::Failed,
+        _ => Reply::Bad,
+    }
 }
 
 // A letter has a function of its own, which reads the operands and puts the line.
@@ -67,9 +79,10 @@ fn answer_judge(description: &[u8], out: &mut Buffer, at: usize) -> Reply
     ensures { λ r. ⌜ Within r ⌝ }
 {
     let mut placement = [0u8; 16];
-    if !read_all(&mut placement) {
-        return Reply::Bad;
-    }
+    let part = read_all(&mut placement);
+    let Part::Whole = part else {
+        return without(part);
+    };
     let at = put_verdict(out, at, judging::judge(description, placement));
     Reply::Line(put(out, at, b"\n"))
 }
@@ -87,17 +100,20 @@ fn answer_draw(description: &[u8], out: &mut Buffer, at: usize) -> Reply
     ensures { λ r. ⌜ Within r ⌝ }
 {
     let mut kind = [0u8; 1];
-    if !read_all(&mut kind) {
-        return Reply::Bad;
-    }
+    let part = read_all(&mut kind);
+    let Part::Whole = part else {
+        return without(part);
+    };
     let mut cost = [0u8; 8];
-    if !read_all(&mut cost) {
-        return Reply::Bad;
-    }
+    let part = read_all(&mut cost);
+    let Part::Whole = part else {
+        return without(part);
+    };
     let mut placement = [0u8; 16];
-    if !read_all(&mut placement) {
-        return Reply::Bad;
-    }
+    let part = read_all(&mut placement);
+    let Part::Whole = part else {
+        return without(part);
+    };
     if kind[0] > 1 {
         return Reply::Bad;
     }
@@ -130,13 +146,15 @@ fn answer_lending(description: &[u8], out: &mut Buffer, at: usize, call: Lending
     ensures { λ r. ⌜ Within r ⌝ }
 {
     let mut placement = [0u8; 16];
-    if !read_all(&mut placement) {
-        return Reply::Bad;
-    }
+    let part = read_all(&mut placement);
+    let Part::Whole = part else {
+        return without(part);
+    };
     let mut room = [0u8; 2];
-    if !read_all(&mut room) {
-        return Reply::Bad;
-    }
+    let part = read_all(&mut room);
+    let Part::Whole = part else {
+        return without(part);
+    };
     let count = be16(room[0], room[1]);
     if count > MOST_LENT {
         return Reply::Bad;
@@ -211,9 +229,10 @@ fn answer_size(description: &[u8], out: &mut Buffer, at: usize) -> Reply
     ensures { λ r. ⌜ Within r ⌝ }
 {
     let mut placement = [0u8; 16];
-    if !read_all(&mut placement) {
-        return Reply::Bad;
-    }
+    let part = read_all(&mut placement);
+    let Part::Whole = part else {
+        return without(part);
+    };
     let at = put_size(out, at, picture::picture_size(description, placement));
     Reply::Line(put(out, at, b"\n"))
 }

@@ -1,8 +1,16 @@
-// Standard input, by parts of a known length. A read that fails counts as the end of the input.
+// Standard input, by parts of a known length. A read that fails is said on standard error at once, while the system still knows why.
 ghost use Prim.Native.Nat.{_+_, _*_, _≤_};
 ghost use mathlib.Core.Path.{_≡_};
 ghost use lib.ListN.{length, drop};
-use libc::STDIN_FILENO;
+ghost use Rattle.standard_input.specs.Counts.{Counted};
+use standard_input::Input;
+
+// What came of a part: all of it, less since the input ended, or a read failed.
+pub enum Part {
+    Whole,
+    Cut,
+    Failed,
+}
 
 // A number in two bytes, most significant first.
 pub fn be16(high: u8, low: u8) -> usize
@@ -23,14 +31,31 @@ pub fn be64(first: usize, second: usize, third: usize, fourth: usize) -> u64
     ((first as u64 * 65536 + second as u64) * 65536 + third as u64) * 65536 + fourth as u64
 }
 
-// Fills the bytes, and answers whether the input had as many.
-pub fn read_all(bytes: &mut [u8]) -> bool {
+// Reads as many bytes as there are, or those that are left.
+pub fn read_some(bytes: &mut [u8]) -> Input
+    ensures { λ r. ⌜ Counted r (now (bytes .exit)) ⌝ }
+{
+    let input = standard_input::read_full(bytes);
+    if let Input::Failed = input {
+        os::fail(b"callcases: standard input");
+    }
+    input
+}
+
+// Fills the bytes.
+pub fn read_all(bytes: &mut [u8]) -> Part {
     let wanted = bytes.len();
-    io::read_full(STDIN_FILENO, bytes) == wanted
+    let Input::Bytes(count) = read_some(bytes) else {
+        return Part::Failed;
+    };
+    if count < wanted {
+        return Part::Cut;
+    }
+    Part::Whole
 }
 
 // The same for the first bytes of a space; those behind them stay.
-pub fn read_front(space: &mut [u8], count: usize) -> bool
+pub fn read_front(space: &mut [u8], count: usize) -> Part
     requires { ⌜ count ≤ length (now space) ⌝ }
     ensures { λ _. ⌜ drop count (now (space .exit)) ≡ drop count (now (space .entry)) ⌝ }
 {

@@ -13,7 +13,8 @@ use buffer::LINE;
 use buffer::SIZE;
 use buffer::front;
 use cases::Reply;
-use libc::STDIN_FILENO;
+use input::Part;
+use standard_input::Input;
 
 // What a case leaves: the offset behind the output that waits to be written, or the end.
 enum Turn {
@@ -53,16 +54,33 @@ fn after_reply(out: &mut Buffer, at: usize, reply: Reply) -> Turn
     match reply {
         Reply::Line(end) => make_room(out, end),
         Reply::Bad => bad_case(out, at),
+        Reply::Failed => Turn::End,
     }
 }
 
-// Reads one case and answers it. The input may end only where a case would begin.
+// Reads the rest of a case, from its description of so many bytes on, and answers it.
+fn answer_rest(space: &mut Buffer, letter: u8, count: usize, out: &mut Buffer, at: usize) -> Reply
+    requires { ⌜ count ≤ size ⌝ }
+    requires { ⌜ at + line ≤ size ⌝ }
+    ensures { λ r. ⌜ Within r ⌝ }
+{
+    let part = input::read_front(space, count);
+    let Part::Whole = part else {
+        return cases::without(part);
+    };
+    cases::answer(letter, front(space, count), out, at)
+}
+
+// Reads one case and answers it. The input may end only where a case would begin. After a read that failed nothing more is written, not even what
+// waits: output that ends without an error line is the answer to all cases.
 fn next_case(space: &mut Buffer, out: &mut Buffer, at: usize) -> Turn
     requires { ⌜ at + line ≤ size ⌝ }
     ensures { λ r. ⌜ Roomy r ⌝ }
 {
     let mut header = [0u8; 3];
-    let got = io::read_full(STDIN_FILENO, &mut header);
+    let Input::Bytes(got) = input::read_some(&mut header) else {
+        return Turn::End;
+    };
     if got == 0 {
         output::flush(out, at);
         return Turn::End;
@@ -71,10 +89,7 @@ fn next_case(space: &mut Buffer, out: &mut Buffer, at: usize) -> Turn
         return bad_case(out, at);
     }
     let count = input::be16(header[1], header[2]);
-    if !input::read_front(space, count) {
-        return bad_case(out, at);
-    }
-    let reply = cases::answer(header[0], front(space, count), out, at);
+    let reply = answer_rest(space, header[0], count, out, at);
     after_reply(out, at, reply)
 }
 
@@ -93,10 +108,6 @@ fn answer_all(space: &mut Buffer, out: &mut Buffer) {
 }
 
 fn main() {
-    if !standard_input::can_read() {
-        os::fail(b"callcases: standard input");
-        return;
-    }
     let mut space = io::large_buffer();
     let mut out = io::large_buffer();
     answer_all(&mut space, &mut out);

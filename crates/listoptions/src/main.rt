@@ -8,9 +8,9 @@ ghost use Rattle.list_text.specs.Lines.{written};
 ghost use Rattle.list_text.specs.RowLines.{wordsOfRow};
 ghost use Rattle.listoptions.specs.Making.{heldWords, heldKeys, heldBytes, pageRows, rowsOf, blocksOf, lastLine, pageText, linesIn, BeginsWith, NextBytes, Whole};
 ghost use Rattle.listoptions.specs.Printed.{printed};
-use libc::STDIN_FILENO;
 use libc::STDOUT_FILENO;
 use list_text::rows::put_rows;
+use standard_input::Input;
 use whole_list::Extent;
 use whole_list::Listed;
 use whole_list::ROW_WORDS;
@@ -145,12 +145,11 @@ fn bytes() -> [u8; PAGE_BYTES]
 
 // Of longer input the first `decidingBytes` decide (`printed-front`): what does not fit into the buffer need not be read.
 fn main() {
-    if !standard_input::can_read() {
+    let mut space = io::buffer();
+    let Input::Bytes(count) = standard_input::read_full(&mut space) else {
         os::fail(b"listoptions: standard input");
         return;
-    }
-    let mut space = io::buffer();
-    let count = io::read_full(STDIN_FILENO, &mut space);
+    };
     let mut rows = words();
     let mut scratch = keys();
     let mut text = bytes();

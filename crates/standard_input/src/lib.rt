@@ -1,8 +1,29 @@
-// What the programs ask of standard input before they read it.
+// What the programs read of standard input.
+ghost use Rattle.standard_input.specs.Counts.{Counted};
 use libc::STDIN_FILENO;
 
-// It can be read. Nothing is read, but a descriptor that is closed or a folder's fails as it would for more.
-pub fn can_read() -> bool {
-    let mut nothing = [0u8; 1];
-    libc::read(STDIN_FILENO, &mut nothing[..0]) >= 0
+// How many bytes came, or that a read failed.
+pub enum Input {
+    Bytes(usize),
+    Failed,
+}
+
+// Reads until the buffer is full, the input ends or a read fails. The bytes are at the start of the buffer. After a failure `errno` says why, until
+// the next call of the C library.
+pub fn read_full(buffer: &mut [u8]) -> Input
+    ensures { λ r. ⌜ Counted r (now (buffer .exit)) ⌝ }
+{
+    let mut done = 0;
+    while done < buffer.len() {
+        let got = libc::read(STDIN_FILENO, &mut buffer[done..]);
+        if got < 0 {
+            return Input::Failed;
+        }
+        let more = io::count(got, &buffer[done..]);
+        if more == 0 {
+            return Input::Bytes(done);
+        }
+        done += more;
+    }
+    Input::Bytes(done)
 }

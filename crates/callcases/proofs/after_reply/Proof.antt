@@ -17,11 +17,18 @@ enum-told c = search needs
 bad-case-requires : tie.Need-bad-case-requires
 bad-case-requires c κs = search needs
 
+enum-told-2 : tie.Need-enum-told-2
+enum-told-2 c = search needs
+
 returns : tie.Need-returns
 returns c = search needs
 
 returns-2 : tie.Need-returns-2
 returns-2 c = search needs
 
+returns-3 : tie.Need-returns-3
+returns-3 c = search needs
+
 pub after-reply-spec : {M : Type 1} → statement M
-after-reply-spec = tie.close (tie.spec enum-known-reply make-room-requires enum-told bad-case-requires returns returns-2)
+after-reply-spec =
+    tie.close (tie.spec enum-known-reply make-room-requires enum-told bad-case-requires enum-told-2 returns returns-2 returns-3)
