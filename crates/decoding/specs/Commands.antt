@@ -65,7 +65,8 @@ module _ (c : List ℕ) (d : Description) where
     pub service : NamesService d (u8At c 1)
     pub datum : NamesDatum d (u8At c 2)
     pub new : (n : ℕ) → n < length (d .edges) → Declarations·edge d n ≡ edgeIn w c → ⊥
-    pub onlyWriter : w ≡ Writes → (n : ℕ) → n < length (d .edges) → Declarations·edge d n .way ≡ Writes → Declarations·edge d n .datum ≡ u8At c 2 → ⊥
+    pub onlyWriter : w ≡ Writes → (n : ℕ) → n < length (d .edges)
+        → Declarations·edge d n .way ≡ Writes → Declarations·edge d n .datum ≡ u8At c 2 → ⊥
 
   -- 06: a pin of a declared block, which has none yet, to a declared cloud
   pub record PinGood : Type 0 where

@@ -15,6 +15,7 @@ ghost use Rattle.lister.specs.Calls.{censusCall, drawCall};
 ghost use Rattle.whole_list.specs.WholeList.{capacity, listAnswer, listCall, rowsAfter, scratchAfter};
 ghost use Rattle.panel.specs.Statuses.{highestPlace, refusalStatus, status, valuesAfter};
 ghost use Rattle.panel.specs.Values.{counts as countValues, transferCount, byteCount, figures as figureValues, rowOrNone, rowBytes, extent as extentValues, one};
+use costs::answers::Bill;
 use description::workflow::Refusal;
 use judging::answers::Acceptance;
 use judging::answers::Masked;
@@ -136,7 +137,7 @@ fn put_row(drawn: Drawn, answer: &mut [u64; 5], row: &mut [u8; 16]) -> u64
     let told = drawn.answer;
     let found = drawn.row;
     let placement = found.placement;
-    let bill = found.bill;
+    let bill: Bill = found.bill;
     match told {
         Answer::Found => {
             *answer = [1, found.cost, bill.storage, bill.transfer, bill.cpu];
