@@ -19,7 +19,8 @@ import sys
 from pathlib import Path
 
 EXAMPLES = Path(__file__).resolve().parent.parent / "examples"
-INPUTS = {"listoptions": "interview.bin", "callcases": "interview.cases"}
+INPUTS = {"listoptions": "interview.bin", "drawoptions": "interview.bin",
+          "callcases": "interview.cases"}
 SECONDS = 20
 # A mapping that Python makes later goes to the upper end of a gap, so a wide one keeps its lower end.
 GAP_PAGES = 256
@@ -38,10 +39,12 @@ def end_of_memory(size):
     """
     library = ctypes.CDLL(None, use_errno=True)
     library.mmap.restype = ctypes.c_void_p
-    library.mmap.argtypes = (ctypes.c_void_p, ctypes.c_size_t) + 3 * (ctypes.c_int,) + (ctypes.c_long,)
-    library.munmap.argtypes = (ctypes.c_void_p, ctypes.c_size_t)
+    where = (ctypes.c_void_p, ctypes.c_size_t)
+    library.mmap.argtypes = where + 3 * (ctypes.c_int,) + (ctypes.c_long,)
+    library.munmap.argtypes = where
     room, gap = (size // mmap.PAGESIZE + 1) * mmap.PAGESIZE, GAP_PAGES * mmap.PAGESIZE
-    start = library.mmap(None, room + gap, mmap.PROT_READ | mmap.PROT_WRITE, mmap.MAP_PRIVATE | mmap.MAP_ANONYMOUS, -1, 0)
+    access, kind = mmap.PROT_READ | mmap.PROT_WRITE, mmap.MAP_PRIVATE | mmap.MAP_ANONYMOUS
+    start = library.mmap(None, room + gap, access, kind, -1, 0)
     require(start != NO_MEMORY, f"mmap: {os.strerror(ctypes.get_errno())}")
     require(library.munmap(start + room, gap) == 0, f"munmap: {os.strerror(ctypes.get_errno())}")
     return start + room

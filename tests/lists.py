@@ -1,17 +1,19 @@
 #!/usr/bin/env python3
-"""Compares three ways to a list, on every description among the stored cases.
+"""Compares four ways to a list, on every description among the stored cases.
 
-The program listoptions lists in one walk; callcases draws row by row; the brute-force
-lister knows neither.  The first must print what the last says, and from the start and
-from each row a draw must answer the next row of the list, and behind the last `finished`.
-The programs are those in target/bin.
+The program listoptions lists in one walk; drawoptions by a chain of draws; callcases
+draws from a cursor that it is given; the brute-force lister knows none of them.  The
+first must print what the last says, and so must drawoptions.  From the start and from
+each row a draw of callcases must answer the next row of the list, and behind the last
+`finished`.  The programs are those in target/bin.
 
     lists.py
 
 A long list is not drawn whole: a draw takes a walk of its own.  Of more than MOST_DRAWS
-rows, draws begin at so many, from the first to the last; and the brute-force model lists
-descriptions of up to QUICK candidates and the examples.  Of longer lists it judges and
-charges the rows that are drawn, and the amounts of all others must make up their cost.
+rows, drawoptions is asked for none, and draws of callcases begin at so many, from the
+first to the last; and the brute-force model lists descriptions of up to QUICK candidates
+and the examples.  Of longer lists it judges and charges the rows that are drawn, and the
+amounts of all others must make up their cost.
 """
 
 import re
@@ -92,9 +94,13 @@ def draws(text, found):
 
 def main():
     texts = stored_texts()
-    cases, expected, lists = [], [], 0
+    cases, expected, lists, chains = [], [], 0, 0
     for text in texts:
-        found = check_lines(text, printed("listoptions", text))
+        lines = printed("listoptions", text)
+        found = check_lines(text, lines)
+        if len(lines) <= MOST_DRAWS + 1:
+            chains += 1
+            require(printed("drawoptions", text) == lines, f"{text.hex()}: another chain of draws")
         if found is not None:
             lists += 1
             for case, answer in draws(text, found):
@@ -104,7 +110,8 @@ def main():
     require(len(answers) == len(expected), "callcases: not one line for each case")
     for case, answer, due in zip(cases, answers, expected):
         require(answer == due, f"{case.hex()}: {answer}, and not {due}")
-    print(f"{len(texts)} descriptions, {lists} lists, {len(cases)} draws along them: the same")
+    print(f"{len(texts)} descriptions, {lists} lists, {chains} times the same by a chain of draws,"
+          f" {len(cases)} draws along them: the same")
 
 
 if __name__ == "__main__":

@@ -11,7 +11,7 @@ work=target/surroundings
 seconds=20
 count=0
 
-for program in listoptions labeltable callcases; do
+for program in listoptions drawoptions labeltable callcases; do
     test -x "$bin/$program" || { echo "surroundings: there is no $bin/$program; rt check $program" >&2; exit 1; }
 done
 mkdir -p "$work"
@@ -87,6 +87,11 @@ settle 'listoptions on a folder' '' 'listoptions: standard input: '
 run listoptions </proc/self/mem >"$work/out"
 settle 'listoptions on memory that is not there' '' 'listoptions: standard input: '
 
+run drawoptions <"$work/empty" >"$work/out"
+settle 'drawoptions on an empty file' "$refused" ''
+run drawoptions <&- >"$work/out"
+settle 'drawoptions on closed input' '' 'drawoptions: standard input: '
+
 # Input without any case gives no line.
 run callcases </dev/null >"$work/out"
 settle 'callcases at the end of input' '' ''
@@ -114,6 +119,9 @@ run listoptions <"$work/empty" >/dev/full
 settle 'listoptions, refusing, to a full device' '' 'listoptions: standard output: '
 run listoptions <&- >&-
 settle 'listoptions with all closed' '' 'listoptions: standard '
+
+run drawoptions <examples/interview.bin >/dev/full
+settle 'drawoptions to a full device' '' 'drawoptions: standard output: '
 
 run callcases <examples/interview.cases >&-
 settle 'callcases to closed output' '' 'callcases: standard output: '
@@ -157,6 +165,10 @@ settle 'callcases on random descriptions' "$answers
 answers=$(cat examples/interview.answers)
 run_with_stack 4096 callcases <examples/interview.cases >"$work/out"
 settle 'callcases with 4096 kilobytes of stack' "$answers
+" ''
+list=$(cat examples/interview.expected)
+run_with_stack 4096 drawoptions <examples/interview.bin >"$work/out"
+settle 'drawoptions with 4096 kilobytes of stack' "$list
 " ''
 run_with_stack 4096 labeltable </dev/null >"$work/out"
 settle 'labeltable with 4096 kilobytes of stack' "$table

@@ -7,13 +7,17 @@ use lib.ListN.{take, replicate}
 use Rattle.description.specs.Declarations.{Description}
 use Rattle.security.specs.Soundness.{read}
 use Rattle.lister.specs.Calls.{drawCall}
-use Rattle.lister.specs.DrawsListEveryRow.{movedBy, results}
+use Rattle.lister.specs.DrawsListEveryRow.{atStart, movedBy, results}
 use Rattle.survey.specs.Rows.{rows}
 use Rattle.lister.proofs.DrawsListEveryRow.{draws-list-every-row}
 use Rattle.lister.specs.Chain.{answerAt, cursorAfter}
 use Rattle.sequences.specs.Draws.{chained}
 use Rattle.sequences.specs.Lists.{from, below}
 use Rattle.sequences.specs.Results.{ok}
+
+pub chain-begins : (s : List ℕ) → cursorAfter s 0 ≡ atStart
+unfolding cursorAfter
+chain-begins s = refl
 
 -- from draw j on
 chained-from : (s : List ℕ) (j n : ℕ) → chained (drawCall s) movedBy (cursorAfter s j) n ≡ map (answerAt s) (from j n)
