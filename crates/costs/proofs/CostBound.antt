@@ -109,7 +109,7 @@ module _ (d : Description) (p : List ℕ) (h : Bounded d) where
 
   copy-sum : sum (map (copyCost d) (transfers d p)) ≤ 32 * mostCopy
   copy-sum = transfers-most (copyCost d) mostCopy (λ t.
-      copy-most (cloud d (t .copy)) (h .inRange .rates (t .copy)) (block d (t .datum) .kind) (h .inRange .kinds (t .datum)))
+      copy-most (cloud d _) (h .inRange .rates _) (block d (t .datum) .kind) (h .inRange .kinds (t .datum)))
 
 -- the most that the four sums come to together is below 2^53
 pub bounded-cost : (d : Description) (p : List ℕ) → Bounded d → cost d p < costLimit
