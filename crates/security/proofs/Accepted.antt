@@ -2,38 +2,26 @@
 use Prim.Native.Nat.{ℕ, _≤_}
 use mathlib.Core.Path.{_≡_, ap, subst}
 use mathlib.Core.List.{List}
-use mathlib.Core.Option.{none}
-use lib.Dec.{ltb}
 use lib.ListN.{take}
-use borrow.Author.Tests.{ltb-false}
-use Rattle.sequences.specs.Lists.{first}
 use Rattle.sequences.specs.Results.{ok, andThen}
-use Rattle.sequences.proofs.Tests.{cond-none}
-use Rattle.sequences.proofs.Results.{ok-inj, andThen-ok, unless-ok}
+use Rattle.sequences.proofs.Results.{andThen-ok}
 use Rattle.description.specs.Declarations.{Description}
 use Rattle.decoding.specs.Format.{decode}
 use Rattle.decoding.specs.Bytes.{Bytes, decidingBytes}
 use Rattle.description.specs.Invariants.{WellFormed, InRange, Bounded}
 use Rattle.decoding.proofs.Front.{front-decides}
 use Rattle.decoding.proofs.Limits.{decoded-wellFormed, decoded-inRange}
-use Rattle.security.specs.Soundness.{breaks2, breaks3, breaks4, count, tooMany, sound, read}
+use Rattle.security.specs.Soundness.{sound, read}
 use Rattle.security.specs.Accepted.{Accepted, Admitted}
-
--- one refusal after another did not happen
-sound-kept : (s : List ℕ) (e d : Description) → decode s ≡ ok e → sound e ≡ ok d → Accepted s d
-unfolding sound
-sound-kept s e d q t =
-    let (r2, t3) = unless-ok (first breaks2 (e .blocks)) 9 _ d .0 t in
-    let (r3, t4) = unless-ok (first (breaks3 e) (e .edges)) 10 _ d .0 t3 in
-    let (r4, t5) = unless-ok (first (breaks4 e) (e .edges)) 11 _ d .0 t4 in
-    let (f, t6) = unless-ok (tooMany e) 12 (ok e) d .0 t5 in
-    let (few, z) = cond-none (ltb 65536 (count e)) 0 none f in
-    subst (Accepted s) (ok-inj t6) (record { decoded = q; rule2 = r2; rule3 = r3; rule4 = r4; few = ltb-false 65536 (count e) few })
+use Rattle.security.proofs.Sound.{accepted-keeps}
 
 -- what Read accepts was decoded, keeps rules 2 to 4, and has no more candidates than may be
 pub accepted : (s : List ℕ) (d : Description) → read s ≡ ok d → Accepted s d
 unfolding read
-accepted s d r = let (e, q, t) = andThen-ok (decode s) sound d .0 r in sound-kept s e d q t
+accepted s d r =
+    let (e, q, t) = andThen-ok (decode s) sound d .0 r in
+    let (r2, r3, r4, few, same) = accepted-keeps e d t in
+    subst (Accepted s) same (record { decoded = q; rule2 = r2; rule3 = r3; rule4 = r4; few = few })
 
 -- so it is well formed, and, read from bytes, in range and bounded
 module _ (s : List ℕ) (d : Description) (r : read s ≡ ok d) where

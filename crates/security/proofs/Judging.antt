@@ -44,6 +44,15 @@ module _ (d : Description) (p : List ℕ) where
   abbrev from14 : Result (Unit {0})
   from14 = unless first16 14 from15
 
+  -- each rule is looked for after those before it were kept
+  tells-15 : (n : ℕ) → bad ≡ none → first16 ≡ none → first17 ≡ some n → judge d p ≡ refused 15 n
+  unfolding judge
+  tells-15 n none13 none14 found = rw (none13, none14, found) refl
+
+  tells-14 : (n : ℕ) → bad ≡ none → first16 ≡ some n → judge d p ≡ refused 14 n
+  unfolding judge
+  tells-14 n none13 found = rw (none13, found) refl
+
   -- by the four searches
   secure-if : (judge d p ≡ ok tt) ↔ ((bad ≡ none) × (first16 ≡ none) × (first17 ≡ none) × (firstPair ≡ none))
   unfolding judge
@@ -76,7 +85,7 @@ module _ (d : Description) (p : List ℕ) where
               let (none15, e17) = unless-later first17 15 14 n from17 (omega arith) h in
               ok-not-refused (unless-later firstPair 17 14 n (ok tt) (omega arith) e17 .1)) e14,
         ),
-    λ (none13, found). rw (none13, found) refl,
+    λ (none13, found). tells-14 n none13 found,
   )
 
   refused15-if : (n : ℕ) → (judge d p ≡ refused 15 n) ↔ ((bad ≡ none) × (first16 ≡ none) × (first17 ≡ some n))
@@ -86,7 +95,7 @@ module _ (d : Description) (p : List ℕ) where
         let (none13, e14) = unless-later bad 13 15 n from14 (omega arith) e in
         let (none14, e15) = unless-later first16 14 15 n from15 (omega arith) e14 in
         (none13, none14, unless-here first17 15 n from17 (λ h. ok-not-refused (unless-later firstPair 17 15 n (ok tt) (omega arith) h .1)) e15),
-    λ (none13, none14, found). rw (none13, none14, found) refl,
+    λ (none13, none14, found). tells-15 n none13 none14 found,
   )
 
   refused17-if : (n : ℕ) → (judge d p ≡ refused 17 n) ↔ ((bad ≡ none) × (first16 ≡ none) × (first17 ≡ none) × (firstPair ≡ some n))

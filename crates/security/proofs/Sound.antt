@@ -4,12 +4,15 @@ use Prim.Native.Nat.{ℕ, _≤_, _<_}
 use mathlib.Core.Path.{_≡_, refl}
 use mathlib.Core.List.{List}
 use mathlib.Core.Option.{none, some}
-use borrow.Author.Tests.{lt-ltb, le-ltb}
+use lib.Dec.{ltb}
+use borrow.Author.Tests.{lt-ltb, le-ltb, ltb-false}
 use Rattle.description.specs.Declarations.{Description}
 use Rattle.decoding.specs.Format.{decode}
-use Rattle.security.specs.Soundness.{breaks2, breaks3, breaks4, count, sound, read}
+use Rattle.security.specs.Soundness.{breaks2, breaks3, breaks4, count, tooMany, sound, read}
 use Rattle.sequences.specs.Lists.{first}
 use Rattle.sequences.specs.Results.{ok, refused}
+use Rattle.sequences.proofs.Results.{ok-inj, unless-ok}
+use Rattle.sequences.proofs.Tests.{cond-none}
 
 -- bytes that decoding refuses are refused so; of others the rules tell
 module _ (s : List ℕ) where
@@ -45,3 +48,15 @@ module _ (d : Description) where
         pub keeps-all : count d ≤ 65536 → sound d ≡ ok d
         unfolding sound
         keeps-all few = rw (rule2, rule3, rule4, le-ltb 65536 (count d) few) refl
+
+-- what is accepted keeps them all, and is what was decoded
+pub accepted-keeps : (d e : Description) → sound d ≡ ok e
+    → (first breaks2 (d .blocks) ≡ none) × (first (breaks3 d) (d .edges) ≡ none) × (first (breaks4 d) (d .edges) ≡ none) × (count d ≤ 65536) × (d ≡ e)
+unfolding sound
+accepted-keeps d e t =
+    let (r2, t3) = unless-ok (first breaks2 (d .blocks)) 9 _ e .0 t in
+    let (r3, t4) = unless-ok (first (breaks3 d) (d .edges)) 10 _ e .0 t3 in
+    let (r4, t5) = unless-ok (first (breaks4 d) (d .edges)) 11 _ e .0 t4 in
+    let (f, t6) = unless-ok (tooMany d) 12 (ok d) e .0 t5 in
+    let (few, z) = cond-none (ltb 65536 (count d)) 0 none f in
+    (r2, r3, r4, ltb-false 65536 (count d) few, ok-inj t6)
