@@ -10,8 +10,10 @@ use crate::input::be16;
 use crate::input::be64;
 use crate::input::read_all;
 use crate::lines::put_acceptance;
+use crate::lines::put_billed;
 use crate::lines::put_counted;
 use crate::lines::put_drawn;
+use crate::lines::put_explanation;
 use crate::lines::put_masked;
 use crate::lines::put_pictured;
 use crate::lines::put_size;
@@ -19,6 +21,7 @@ use crate::lines::put_transferred;
 use crate::lines::put_verdict;
 use crate::output::put;
 use crate::output::put_hex;
+use sequences::wide;
 use survey::Cursor;
 
 // The offset behind a case's line in the output, or that it is no case, or that a read failed.
@@ -52,6 +55,18 @@ pub fn answer(letter: u8, description: &[u8], out: &mut Buffer, at: usize) -> Re
         b'T' => answer_lending(description, out, at, Lending::Transfers),
         b'P' => answer_lending(description, out, at, Lending::Picture),
         b'B' => answer_size(description, out, at),
+        _ => answer_later(letter, description, out, at),
+    }
+}
+
+// The letters that came later.
+fn answer_later(letter: u8, description: &[u8], out: &mut Buffer, at: usize) -> Reply
+    requires { ⌜ at + line ≤ size ⌝ }
+    ensures { λ r. ⌜ Within r ⌝ }
+{
+    match letter {
+        b'A' => answer_bill(description, out, at),
+        b'W' => answer_standing(description, out, at),
         _ => Reply::Bad,
     }
 }
@@ -234,5 +249,32 @@ fn answer_size(description: &[u8], out: &mut Buffer, at: usize) -> Reply
         return without(part);
     };
     let at = put_size(out, at, picture::picture_size(description, placement));
+    Reply::Line(put(out, at, b"\n"))
+}
+
+fn answer_bill(description: &[u8], out: &mut Buffer, at: usize) -> Reply
+    requires { ⌜ at + line ≤ size ⌝ }
+    ensures { λ r. ⌜ Within r ⌝ }
+{
+    let mut placement = [0u8; 16];
+    let part = read_all(&mut placement);
+    let Part::Whole = part else {
+        return without(part);
+    };
+    let at = put_billed(out, at, billing::bill(description, placement));
+    Reply::Line(put(out, at, b"\n"))
+}
+
+fn answer_standing(description: &[u8], out: &mut Buffer, at: usize) -> Reply
+    requires { ⌜ at + line ≤ size ⌝ }
+    ensures { λ r. ⌜ Within r ⌝ }
+{
+    let mut place = [0u8; 2];
+    let part = read_all(&mut place);
+    let Part::Whole = part else {
+        return without(part);
+    };
+    let answer = standing::standing(description, wide(place[0]), place[1]);
+    let at = put_explanation(out, at, answer);
     Reply::Line(put(out, at, b"\n"))
 }

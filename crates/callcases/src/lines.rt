@@ -6,6 +6,7 @@ use crate::output::put;
 use crate::output::put_clouds;
 use crate::output::put_hex;
 use crate::output::put_number;
+use billing::Billed;
 use costs::answers::Bill;
 use description::workflow::Refusal;
 use judging::answers::Acceptance;
@@ -15,6 +16,8 @@ use lister::Counted;
 use lister::Drawn;
 use picture::Pictured;
 use security::answers::Verdict;
+use standing::Explanation;
+use standing::reason_number;
 use survey::Figures;
 use survey::Row;
 use transfer_list::Transferred;
@@ -115,6 +118,33 @@ pub fn put_size(out: &mut Buffer, at: usize, p: Pictured) -> usize
             put_number(out, at, n as u64)
         }
         Pictured::Refused(r) => put_refusal(out, at, r),
+    }
+}
+
+pub fn put_billed(out: &mut Buffer, at: usize, b: Billed) -> usize
+    requires { ⌜ at + words ≤ size ⌝ }
+    ensures { λ r. ⌜ r ≤ at + words ⌝ }
+{
+    match b {
+        Billed::Priced { cost, bill } => {
+            let at = put(out, at, b"bill");
+            let at = put_number(out, at, cost);
+            put_bill(out, at, bill)
+        }
+        Billed::Refused(r) => put_refusal(out, at, r),
+    }
+}
+
+pub fn put_explanation(out: &mut Buffer, at: usize, e: Explanation) -> usize
+    requires { ⌜ at + words ≤ size ⌝ }
+    ensures { λ r. ⌜ r ≤ at + words ⌝ }
+{
+    match e {
+        Explanation::Reason(reason) => {
+            let at = put(out, at, b"standing");
+            put_number(out, at, reason_number(reason) as u64)
+        }
+        Explanation::Refused(r) => put_refusal(out, at, r),
     }
 }
 

@@ -30,6 +30,11 @@ pub weight-terms : (d : Description) (p : List ℕ)
 unfolding weightOf
 weight-terms d p = refl
 
+-- what a block adds is its storage and its computing
+pub block-term : (d : Description) (b k : ℕ) → blockTerm d b k ≡ storageOf (cloud d k) (block d b .kind) + cpuOf (cloud d k) (block d b .kind)
+unfolding blockTerm
+block-term d b k = refl
+
 free : (k : Kind) → storageOf noCloud k + cpuOf noCloud k ≡ 0
 free k = simp (zero-mul)
 

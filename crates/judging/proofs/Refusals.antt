@@ -13,10 +13,10 @@ use Rattle.security.specs.Masks.{masksOf}
 use Rattle.security.specs.Soundness.{read}
 use Rattle.security.specs.Placements.{judge}
 use Rattle.security.proofs.Accepted.{read-wellFormed}
-use Rattle.security.proofs.Refusals.{read-within, judged-within}
+use Rattle.security.proofs.Refusals.{read-within, judged-within as verdict-within}
 use Rattle.transfer_list.specs.Transfers.{transfers, bytesOf, fitted}
 use Rattle.transfer_list.proofs.Transferring.{bytes-length, transfers-few}
-use Rattle.judging.specs.Calls.{countsOf, readCall, masksCall, judgeCall, transfersCall}
+use Rattle.judging.specs.Calls.{countsOf, readCall, masksCall, judgeCall, judged, transfersCall}
 
 -- 128 bytes hold the transfers of any placement
 pub transfers-room : (s : List ℕ) (d : Description) → read s ≡ ok d → (p : List ℕ) → length (bytesOf (transfers d p)) ≤ 128
@@ -36,14 +36,20 @@ module _ (s : List ℕ) where
 
   pub judgeCall-within : (p : List ℕ) → RefusalWithin 17 decidingBytes (judgeCall s p)
   unfolding judgeCall
-  judgeCall-within p = within-andThen 17 decidingBytes (read s) (λ d. judge d p) (read-wider 17 (omega arith)) (λ d e. judged-within s d e p)
+  judgeCall-within p = within-andThen 17 decidingBytes (read s) (λ d. judge d p) (read-wider 17 (omega arith)) (λ d e. verdict-within s d e p)
+
+  pub judged-within : (p : List ℕ) → RefusalWithin 17 decidingBytes (judged s p)
+  unfolding judged
+  judged-within p =
+      within-andThen 17 decidingBytes (read s) (λ d. andThen (judge d p) (λ secure. ok d)) (read-wider 17 (omega arith))
+      (λ d e. within-andThen 17 decidingBytes (judge d p) (λ secure. ok d) (verdict-within s d e p) (λ secure _. tt))
 
   pub transfersCall-within : (p : List ℕ) (n : ℕ) → RefusalWithin 17 decidingBytes (transfersCall s p n)
   unfolding transfersCall
   transfersCall-within p n =
       within-andThen 17 decidingBytes (read s) (λ d. andThen (judge d p) (λ secure. fitted n (transfers d p))) (read-wider 17 (omega arith))
       (λ d e. within-andThen 17 decidingBytes (judge d p) (λ secure. fitted n (transfers d p))
-      (judged-within s d e p) (λ secure _. short d e))
+      (verdict-within s d e p) (λ secure _. short d e))
     where
       short : (d : Description) → read s ≡ ok d → RefusalWithin 17 decidingBytes (fitted n (transfers d p))
       short d e =

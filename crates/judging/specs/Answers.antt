@@ -2,6 +2,8 @@
 use Prim.Native.Nat.{ℕ}
 use mathlib.Core.List.{List}
 use Rattle.description.specs.Declarations.{Description}
+use Rattle.security.specs.declared.answers.Verdict.{Verdict}
+use Rattle.security.specs.declared.answers.Verdict.the-variants as verdict
 use Rattle.security.specs.Soundness.{count}
 use Rattle.judging.specs.declared.answers.Acceptance.{Acceptance}
 use Rattle.judging.specs.declared.answers.Acceptance.the-variants.{Accepted, Refused}
@@ -34,3 +36,8 @@ maskedAnswer (masked.Refused r) = refused (r .number) (r .place)
 abbrev pub masksAfter : Result (List ℕ) → List ℕ → List ℕ
 masksAfter (ok ms) before = ms
 masksAfter (refused number place) before = before
+
+-- the verdict on a placement of d: d itself if it is secure, or a refusal with its number and place
+abbrev pub verdictOn : Verdict → Description → Result Description
+verdictOn verdict.Secure d = ok d
+verdictOn (verdict.Refused r) d = refused (r .number) (r .place)

@@ -31,6 +31,10 @@ masksCall s = masked (read s)
 unfoldable pub judgeCall : List ℕ → List ℕ → Result (Unit {0})
 judgeCall s p = andThen (read s) (λ d. judge d p)
 
+-- what the bytes declare, if it is accepted and the placement is secure for it
+unfoldable pub judged : List ℕ → List ℕ → Result Description
+judged s p = andThen (read s) (λ d. andThen (judge d p) (λ secure. ok d))
+
 -- the transfers that are written to a buffer of n bytes
 unfoldable pub transfersCall : List ℕ → List ℕ → ℕ → Result (List Transfer)
 transfersCall s p n = andThen (read s) (λ d. andThen (judge d p) (λ secure. fitted n (transfers d p)))

@@ -3,8 +3,8 @@ ghost use mathlib.Core.Path.{_≡_};
 ghost use lib.ListN.{replicate};
 ghost use Rattle.description.specs.Meaning.{describes, Cleared};
 ghost use Rattle.security.specs.Soundness.{sound, read};
-ghost use Rattle.judging.specs.Answers.{admissionOf, counted, masksAfter};
-ghost use Rattle.judging.specs.Calls.{masked};
+ghost use Rattle.judging.specs.Answers.{admissionOf, counted, masksAfter, verdictOn};
+ghost use Rattle.judging.specs.Calls.{judged, masked};
 use crate::answers::Admission;
 use decoding::decode;
 use description::words::Words;
@@ -13,10 +13,12 @@ use description::workflow::Outcome;
 use description::workflow::Refusal;
 use security::answers::Found;
 use security::answers::Rule;
+use security::answers::Verdict;
 use security::masks::Masks;
 use security::masks::POSITIONS;
 use security::masks::masks_of;
 use security::placements::first_breaking;
+use security::placements::verdict;
 use security::soundness::first_breaking_rule2;
 
 // The numbers that a decoded description is refused with.
@@ -88,4 +90,16 @@ pub fn accept(description: &[u8], w: &mut Words) -> Admission
 {
     let mut masks = [0u8; POSITIONS];
     accept_with_masks(description, w, &mut masks)
+}
+
+// For a call that needs a secure placement: what Read refuses, then what Judge refuses; if neither does, the words hold the description.
+pub fn accept_secure(description: &[u8], placement: [u8; 16], w: &mut Words) -> Verdict
+    ensures { λ r. ⌜ verdictOn r (describes (now (w .exit))) ≡ judged (now (description .entry)) placement ⌝ }
+{
+    let mut masks = [0u8; POSITIONS];
+    let admission = accept_with_masks(description, w, &mut masks);
+    match admission {
+        Admission::Accepted(_) => verdict(w, &masks, placement),
+        Admission::Refused(r) => Verdict::Refused(r),
+    }
 }

@@ -11,6 +11,10 @@ use Rattle.judging.proofs.Refusals.{readCall-within, masksCall-within, judgeCal
 use Rattle.picture.specs.Calls.{pictureCall, sizeCall}
 use Rattle.picture.specs.Picture.{pictureBytes}
 use Rattle.picture.proofs.Refusals.{pictureCall-within, sizeCall-within}
+use Rattle.billing.specs.Calls.{billCall}
+use Rattle.billing.proofs.Refusals.{billCall-within}
+use Rattle.standing.specs.Reasons.{standingCall}
+use Rattle.standing.proofs.Refusals.{standingCall-within}
 use Rattle.lister.specs.Calls.{censusCall, drawCall}
 use Rattle.lister.proofs.Refusals.{censusCall-within, drawCall-within}
 use Rattle.whole_list.specs.WholeList.{mostWords, listCall}
@@ -34,6 +38,8 @@ nothing-lost s bytes = record {
   transfers = λ p room. sooner 17 decidingBytes (omega arith) (omega arith) (transfersCall s p room) (transfersCall-within s p room);
   picture = λ p room. sooner 17 pictureBytes (omega arith) (omega arith) (pictureCall s p room) (pictureCall-within s p room);
   size = λ p. sooner 17 pictureBytes (omega arith) (omega arith) (sizeCall s p) (sizeCall-within s p);
+  bill = λ p. sooner 17 decidingBytes (omega arith) (omega arith) (billCall s p) (billCall-within s p);
+  standing = λ b k. sooner 12 decidingBytes (omega arith) (omega arith) (standingCall s b k) (standingCall-within s b k);
   census = sooner 12 decidingBytes (omega arith) (omega arith) (censusCall s) (censusCall-within s);
   draw = λ c. sooner 12 decidingBytes (omega arith) (omega arith) (drawCall s c) (drawCall-within s c);
   list = λ room. sooner 16 mostWords (omega arith) (omega arith) (listCall s room) (listCall-within s room bytes);

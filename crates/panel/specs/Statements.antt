@@ -5,6 +5,8 @@ use mathlib.Core.List.{List}
 use Rattle.sequences.specs.Results.{Result, ok, refused}
 use Rattle.judging.specs.Calls.{readCall, masksCall, judgeCall, transfersCall}
 use Rattle.picture.specs.Calls.{pictureCall, sizeCall}
+use Rattle.billing.specs.Calls.{billCall}
+use Rattle.standing.specs.Reasons.{standingCall}
 use Rattle.survey.specs.declared.Cursor.{Cursor}
 use Rattle.lister.specs.Calls.{censusCall, drawCall}
 use Rattle.whole_list.specs.WholeList.{listCall}
@@ -24,6 +26,8 @@ pub record NothingLost (s : List ℕ) : Type 0 where
   pub transfers : (p : List ℕ) (room : ℕ) → Readable (transfersCall s p room)
   pub picture : (p : List ℕ) (room : ℕ) → Readable (pictureCall s p room)
   pub size : (p : List ℕ) → Readable (sizeCall s p)
+  pub bill : (p : List ℕ) → Readable (billCall s p)
+  pub standing : (b k : ℕ) → Readable (standingCall s b k)
   pub census : Readable (censusCall s)
   pub draw : (c : Cursor) → Readable (drawCall s c)
   pub list : (room : ℕ) → Readable (listCall s room)

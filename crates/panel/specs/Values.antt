@@ -4,6 +4,7 @@ use mathlib.Core.List.{List, [], _∷_}
 use mathlib.Core.Option.{Option, none, some}
 use lib.ListN.{length}
 use Rattle.judging.specs.Calls.{Counts}
+use Rattle.costs.specs.declared.answers.Bill.{Bill}
 use Rattle.transfer_list.specs.Transfers.{Transfer}
 use Rattle.survey.specs.declared.Row.{Row}
 use Rattle.lister.specs.Answers.{rowBeside}
@@ -25,6 +26,10 @@ transferCount ts = one (length ts)
 -- Picture: how many bytes its text has
 abbrev pub byteCount : List ℕ → List ℕ
 byteCount text = one (length text)
+
+-- Bill: the cost, then storage, transfer and cpu
+abbrev pub price : ℕ × Bill → List ℕ
+price p = p .0 ∷ p .1 .storage ∷ p .1 .transfer ∷ p .1 .cpu ∷ []
 
 -- Census: candidates, those that break rule 16, those that break rule 17 alone, those that break a pair alone, secure ones, options
 abbrev pub figures : Census → List ℕ

@@ -1,4 +1,4 @@
-// The nine calls for C, declared in `include/panel.h`. Each answers a status, 0 or a refusal's number and place in one word, and puts the
+// The eleven calls for C, declared in `include/panel.h`. Each answers a status, 0 or a refusal's number and place in one word, and puts the
 // values of its answer into lent arrays, which a refusal leaves as they were.
 ghost use mathlib.Core.Path.{_≡_};
 ghost use Prim.Native.Nat.{_-_, _^_, min};
@@ -10,11 +10,16 @@ ghost use Rattle.judging.specs.Calls.{readCall, masksCall, judgeCall, transfers
 ghost use Rattle.transfer_list.specs.Transfers.{bufferAfter};
 ghost use Rattle.picture.specs.Answers.{pictureAnswer};
 ghost use Rattle.picture.specs.Calls.{pictureCall, sizeCall, bufferAfter as pictureAfter};
+ghost use Rattle.billing.specs.Answers.{billAnswer};
+ghost use Rattle.billing.specs.Calls.{billCall};
+ghost use Rattle.standing.specs.Answers.{standingAnswer};
+ghost use Rattle.standing.specs.Reasons.{standingCall};
 ghost use Rattle.lister.specs.Answers.{censusAnswer, drawAnswer};
 ghost use Rattle.lister.specs.Calls.{censusCall, drawCall};
 ghost use Rattle.whole_list.specs.WholeList.{capacity, listAnswer, listCall, rowsAfter, scratchAfter};
 ghost use Rattle.panel.specs.Statuses.{highestPlace, refusalStatus, status, valuesAfter};
-ghost use Rattle.panel.specs.Values.{counts as countValues, transferCount, byteCount, figures as figureValues, rowOrNone, rowBytes, extent as extentValues, one};
+ghost use Rattle.panel.specs.Values.{counts as countValues, transferCount, byteCount, figures as figureValues, rowOrNone, rowBytes, price, extent as extentValues, one};
+use billing::Billed;
 use costs::answers::Bill;
 use description::workflow::Refusal;
 use judging::answers::Acceptance;
@@ -24,6 +29,8 @@ use lister::Counted;
 use lister::Drawn;
 use picture::Pictured;
 use security::answers::Verdict;
+use standing::Explanation;
+use standing::reason_number;
 use survey::Cursor;
 use transfer_list::Transferred;
 use whole_list::Listed;
@@ -106,6 +113,32 @@ fn put_size(answer: Pictured, count: &mut [u64; 1]) -> u64
             0
         }
         Pictured::Refused(r) => refusal_status(r),
+    }
+}
+
+fn put_price(answer: Billed, amounts: &mut [u64; 4]) -> u64
+    ensures { λ r. ⌜ r ≡ status (billAnswer answer) ⌝ }
+    ensures { λ _. ⌜ now (amounts .exit) ≡ valuesAfter price (billAnswer answer) (now (amounts .entry)) ⌝ }
+{
+    match answer {
+        Billed::Priced { cost, bill } => {
+            *amounts = [cost, bill.storage, bill.transfer, bill.cpu];
+            0
+        }
+        Billed::Refused(r) => refusal_status(r),
+    }
+}
+
+fn put_reason(answer: Explanation, reason: &mut [u64; 1]) -> u64
+    ensures { λ r. ⌜ r ≡ status (standingAnswer answer) ⌝ }
+    ensures { λ _. ⌜ now (reason .exit) ≡ valuesAfter one (standingAnswer answer) (now (reason .entry)) ⌝ }
+{
+    match answer {
+        Explanation::Reason(why) => {
+            *reason = [reason_number(why) as u64];
+            0
+        }
+        Explanation::Refused(r) => refusal_status(r),
     }
 }
 
@@ -243,6 +276,36 @@ pub extern "C" fn panel_picture_size(
     let bytes = *placement;
     let answer = picture::picture_size(description, bytes);
     put_size(answer, count)
+}
+
+// Bill: the cost of a secure placement, then its storage, transfer and cpu.
+#[no_mangle]
+pub extern "C" fn panel_bill(
+    description: &[u8],
+    placement: &[u8; 16],
+    amounts: &mut [u64; 4],
+) -> u64
+    ensures { λ r. ⌜ r ≡ status (billCall (now (description .entry)) (now (placement .entry))) ⌝ }
+    ensures { λ _. ⌜ now (amounts .exit) ≡ valuesAfter price (billCall (now (description .entry)) (now (placement .entry))) (now (amounts .entry)) ⌝ }
+{
+    let bytes = *placement;
+    let answer = billing::bill(description, bytes);
+    put_price(answer, amounts)
+}
+
+// Standing: why a position may not have a cloud; 0 if it may.
+#[no_mangle]
+pub extern "C" fn panel_standing(
+    description: &[u8],
+    position: usize,
+    cloud: u8,
+    reason: &mut [u64; 1],
+) -> u64
+    ensures { λ r. ⌜ r ≡ status (standingCall (now (description .entry)) position cloud) ⌝ }
+    ensures { λ _. ⌜ now (reason .exit) ≡ valuesAfter one (standingCall (now (description .entry)) position cloud) (now (reason .entry)) ⌝ }
+{
+    let answer = standing::standing(description, position, cloud);
+    put_reason(answer, reason)
 }
 
 // Census: the six figures.

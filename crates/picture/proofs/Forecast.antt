@@ -1,54 +1,29 @@
 -- The number forecast is the number written: both calls are about the text of one definition.
 use Prim.Native.Nat.{ℕ, _≤_}
-use mathlib.Core.Path.{_≡_, refl, sym, ap, _∙_}
+use mathlib.Core.Path.{_≡_, refl, ap, _∙_}
 use mathlib.Core.Bool.{Bool, true, false, cond}
 use mathlib.Core.List.{List}
 use lib.ListN.{length}
 use lib.Dec.{ltb}
 use Rattle.description.specs.Declarations.{Description}
-use Rattle.security.specs.Soundness.{read}
-use Rattle.security.specs.Placements.{judge}
 use Rattle.security.proofs.Accepted.{read-wellFormed}
-use Rattle.security.proofs.Judging.{judge-secure}
-use Rattle.judging.specs.Calls.{judgeCall}
-use Rattle.judging.proofs.Judged.{judgeCall-is, judgeCall-secure}
+use Rattle.judging.specs.Calls.{judged}
+use Rattle.judging.proofs.Judged.{judgeCall-secure, judged-secure, judged-refused}
 use Rattle.sequences.specs.Results.{Result, ok, refused, andThen}
 use Rattle.sequences.proofs.Results.{ok-inj, andThen-ok}
 use Rattle.picture.specs.Answers.{sizeOf}
-use Rattle.picture.specs.Calls.{judged, fitted, pictureCall, sizeCall}
+use Rattle.picture.specs.Calls.{fitted, pictureCall, sizeCall}
 use Rattle.picture.specs.Picture.{picture, pictureBytes}
 use Rattle.picture.specs.Statements.{Forecast}
 use Rattle.picture.proofs.Bound.{picture-few}
 use Rattle.picture.proofs.Fitting.{long-enough}
 
--- what is judged is accepted, and the placement is secure for it
-judged-secure : (s p : List ℕ) (d : Description) → judged s p ≡ ok d → (read s ≡ ok d) × (judge d p ≡ ok tt)
-unfolding judged
-judged-secure s p d e =
-    let (x, accepted, rest) = andThen-ok (read s) (λ x. andThen (judge x p) (λ secure. ok x)) d .0 e in
-    let (u, secure, same) = andThen-ok (judge x p) (λ u. ok x) d .0 rest in
-    let x-is : x ≡ d = ok-inj same in
-    (accepted ∙ ap ok x-is, rw (← x-is) secure)
-
 pub judged-few : (s p : List ℕ) (d : Description) → judged s p ≡ ok d → length (picture d p) ≤ pictureBytes
 judged-few s p d e =
-    let (accepted, secure) = judged-secure s p d e in
-    picture-few d p (read-wellFormed s d accepted) (judge-secure d p .0 secure .placed)
+    let (accepted, secure) = judged-secure s p d .0 e in
+    picture-few d p (read-wellFormed s d accepted) (secure .placed)
 
 module _ (s p : List ℕ) where
-  accepted-judged : (d : Description) → read s ≡ ok d → judge d p ≡ ok tt → judged s p ≡ ok d
-  unfolding judged
-  accepted-judged d accepted secure = rw (accepted, secure) refl
-
-  refused-judged : (number place : ℕ) → judgeCall s p ≡ refused number place → judged s p ≡ refused number place
-  unfolding judged
-  refused-judged number place e = go (read s) (sym (judgeCall-is s p) ∙ e)
-    where
-      go : (r : Result Description) → andThen r (λ d. judge d p) ≡ refused number place
-          → andThen r (λ d. andThen (judge d p) (λ secure. ok d)) ≡ refused number place
-      go (ok d) h = ap (λ (r : Result (Unit {0})). andThen r (λ (secure : Unit {0}). ok d)) h
-      go (refused n q) h = cc
-
   told : (n : ℕ) (r : Result Description)
       → sizeOf (andThen r (λ d. fitted n (picture d p)))
       ≡ andThen (andThen r (λ d. ok (length (picture d p)))) (λ size. cond (ltb n size) (refused 16 size) (ok size))
@@ -72,7 +47,7 @@ module _ (s p : List ℕ) where
     drawn =
         λ e.
         (let (d, accepted, secure) = judgeCall-secure s p .0 e in
-        let held = accepted-judged d accepted (judge-secure d p .1 secure) in (
+        let held = judged-secure s p d .1 (accepted, secure) in (
           d,
           accepted,
           ap (λ r. andThen r (λ x. ok (length (picture x p)))) held,
@@ -80,7 +55,7 @@ module _ (s p : List ℕ) where
         ));
     alike =
         λ number place e.
-        (let held = refused-judged number place e in (
+        (let held = judged-refused s p number place e in (
           ap (λ r. andThen r (λ x. ok (length (picture x p)))) held,
           λ n. ap (λ r. andThen r (λ x. fitted n (picture x p))) held,
         ));

@@ -7,7 +7,8 @@ use Rattle.security.specs.Soundness.{breaks2, breaks3, breaks4, mayStand, choic
 use Rattle.security.specs.Placements.{moves, exposes, breaks16, breaks17, copies, holds, holdsBoth, together, badPosition, judge}
 use Rattle.list_text.specs.Lines.{digits, decimal}
 use Rattle.picture.specs.Picture.{readPath, writePath, pathOf, edgeLine, hasEdge, blockLine, picture}
-use Rattle.picture.specs.Calls.{judged, pictureCall, sizeCall}
+use Rattle.judging.specs.Calls.{judged}
+use Rattle.picture.specs.Calls.{pictureCall, sizeCall}
 use Rattle.picture.specs.Interview.{Interview}
 
 pub interview : Interview

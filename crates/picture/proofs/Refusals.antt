@@ -5,25 +5,19 @@ use mathlib.Core.Path.{_≡_}
 use mathlib.Core.List.{List}
 use lib.ListN.{length}
 use lib.Dec.{ltb}
-use Rattle.sequences.specs.Results.{ok, refused, andThen, RefusalWithin}
+use Rattle.sequences.specs.Results.{ok, refused, RefusalWithin}
 use Rattle.sequences.proofs.Results.{within-more, within-cond, within-andThen}
 use Rattle.decoding.specs.Bytes.{decidingBytes}
 use Rattle.description.specs.Declarations.{Description}
-use Rattle.security.specs.Soundness.{read}
-use Rattle.security.specs.Placements.{judge}
-use Rattle.security.proofs.Refusals.{read-within, judged-within}
-use Rattle.picture.specs.Calls.{judged, fitted, pictureCall, sizeCall}
+use Rattle.judging.specs.Calls.{judged}
+use Rattle.judging.proofs.Refusals.{judged-within}
+use Rattle.picture.specs.Calls.{fitted, pictureCall, sizeCall}
 use Rattle.picture.specs.Picture.{picture, pictureBytes}
 use Rattle.picture.proofs.Forecast.{judged-few}
 
 module _ (s p : List ℕ) where
   judged-refusals : RefusalWithin 17 pictureBytes (judged s p)
-  unfolding judged
-  judged-refusals =
-      within-andThen 17 pictureBytes (read s) (λ d. andThen (judge d p) (λ secure. ok d))
-      (within-more 17 pictureBytes (omega arith) (omega arith) (read s) (read-within s))
-      (λ d e. within-andThen 17 pictureBytes (judge d p) (λ secure. ok d)
-      (within-more 17 pictureBytes (omega arith) (omega arith) (judge d p) (judged-within s d e p)) (λ secure _. tt))
+  judged-refusals = within-more 17 pictureBytes (omega arith) (omega arith) (judged s p) (judged-within s p)
 
   pub pictureCall-within : (n : ℕ) → RefusalWithin 17 pictureBytes (pictureCall s p n)
   unfolding pictureCall

@@ -2,9 +2,6 @@
 use Prim.Native.Nat.{ℕ}
 use mathlib.Core.List.{List}
 use lib.ListN.{length}
-use Rattle.description.specs.Declarations.{Description}
-use Rattle.security.specs.declared.answers.Verdict.{Verdict}
-use Rattle.security.specs.declared.answers.Verdict.the-variants as verdict
 use Rattle.picture.specs.declared.Pictured.{Pictured}
 use Rattle.picture.specs.declared.Pictured.the-variants.{Bytes, Refused}
 use Rattle.sequences.specs.Results.{Result, ok, refused, andThen}
@@ -17,8 +14,3 @@ pictureAnswer (Refused r) = refused (r .number) (r .place)
 -- how many bytes were written
 abbrev pub sizeOf : Result (List ℕ) → Result ℕ
 sizeOf r = andThen r (λ text. ok (length text))
-
--- a verdict on a placement of d
-abbrev pub verdictOn : Verdict → Description → Result Description
-verdictOn verdict.Secure d = ok d
-verdictOn (verdict.Refused r) d = refused (r .number) (r .place)

@@ -4,15 +4,9 @@ use mathlib.Core.Bool.{cond}
 use mathlib.Core.List.{List, _++_}
 use lib.ListN.{length, drop}
 use lib.Dec.{ltb}
-use Rattle.description.specs.Declarations.{Description}
-use Rattle.security.specs.Soundness.{read}
-use Rattle.security.specs.Placements.{judge}
+use Rattle.judging.specs.Calls.{judged}
 use Rattle.sequences.specs.Results.{Result, ok, refused, andThen}
 use Rattle.picture.specs.Picture.{picture}
-
--- what the bytes declare, if it is accepted and the placement is secure for it
-unfoldable pub judged : List ℕ → List ℕ → Result Description
-judged s p = andThen (read s) (λ d. andThen (judge d p) (λ secure. ok d))
 
 -- a buffer of n bytes has room for the text; 16, with the bytes needed: it is too short
 abbrev pub fitted : ℕ → List ℕ → Result (List ℕ)

@@ -2,8 +2,8 @@
 ghost use mathlib.Core.Path.{_≡_};
 ghost use lib.ListN.{length};
 ghost use Rattle.description.specs.Meaning.{describes};
-ghost use Rattle.picture.specs.Answers.{pictureAnswer, sizeOf, verdictOn};
-ghost use Rattle.picture.specs.Calls.{judged, fitted, pictureCall, sizeCall, bufferAfter};
+ghost use Rattle.picture.specs.Answers.{pictureAnswer, sizeOf};
+ghost use Rattle.picture.specs.Calls.{fitted, pictureCall, sizeCall, bufferAfter};
 ghost use Rattle.picture.specs.Picture.{picture};
 
 mod lines;
@@ -12,12 +12,9 @@ mod text;
 use description::words::WORDS;
 use description::words::Words;
 use description::workflow::Refusal;
-use judging::acceptance::accept_with_masks;
-use judging::answers::Admission;
+use judging::acceptance::accept_secure;
 use lines::draw;
 use security::answers::Verdict;
-use security::masks::POSITIONS;
-use security::placements::verdict;
 use text::put_text;
 
 pub enum Pictured {
@@ -30,18 +27,6 @@ const SHORT_BUFFER: u8 = 16;
 
 // Enough for any words, `sheetBytes` in specs/Sheets.antt.
 const SHEET_BYTES: usize = 1774;
-
-// What Read refuses, then what Judge refuses; if neither does, the words hold the description.
-fn judged(description: &[u8], placement: [u8; 16], w: &mut Words) -> Verdict
-    ensures { λ r. ⌜ verdictOn r (describes (now (w .exit))) ≡ judged (now (description .entry)) placement ⌝ }
-{
-    let mut masks = [0u8; POSITIONS];
-    let admission = accept_with_masks(description, w, &mut masks);
-    match admission {
-        Admission::Accepted(_) => verdict(w, &masks, placement),
-        Admission::Refused(r) => Verdict::Refused(r),
-    }
-}
 
 fn size(w: &Words, placement: [u8; 16]) -> usize
     ensures { λ r. ⌜ r ≡ length (picture (describes (now (w .entry))) placement) ⌝ }
@@ -73,7 +58,7 @@ pub fn picture_size(description: &[u8], placement: [u8; 16]) -> Pictured
     ensures { λ r. ⌜ pictureAnswer r ≡ sizeCall (now (description .entry)) placement ⌝ }
 {
     let mut w = [0u32; WORDS];
-    let verdict = judged(description, placement, &mut w);
+    let verdict = accept_secure(description, placement, &mut w);
     let Verdict::Refused(refusal) = verdict else {
         return Pictured::Bytes(size(&w, placement));
     };
@@ -86,7 +71,7 @@ pub fn picture(description: &[u8], placement: [u8; 16], buffer: &mut [u8]) -> Pi
     ensures { λ _. ⌜ now (buffer .exit) ≡ bufferAfter (pictureCall (now (description .entry)) placement (length (now (buffer .entry)))) (now (buffer .entry)) ⌝ }
 {
     let mut w = [0u32; WORDS];
-    let verdict = judged(description, placement, &mut w);
+    let verdict = accept_secure(description, placement, &mut w);
     let Verdict::Refused(refusal) = verdict else {
         return written(&w, placement, buffer);
     };

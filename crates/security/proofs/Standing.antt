@@ -17,7 +17,7 @@ use Rattle.security.specs.Soundness.{blockLabel, pinAllows, cloudCovers,
 use Rattle.security.specs.Statements.{Stands, Good}
 use Rattle.sequences.proofs.Tests.{both-pass}
 
-pin-kept : (pin : Pin) (k : ℕ) → (pinAllows pin k ≡ true) ↔ ((c : ℕ) → pin ≡ To c → c ≡ k)
+pub pin-kept : (pin : Pin) (k : ℕ) → (pinAllows pin k ≡ true) ↔ ((c : ℕ) → pin ≡ To c → c ≡ k)
 pin-kept Free k = (λ _ c e. absurd (false≢true (ap isPinned e)), λ _. refl)
 pin-kept (To c) k = (λ t b e. let same : c ≡ b = cc in sym same ∙ eqb-true c k t, λ h. eq-eqb c k (h c refl))
 

@@ -6,15 +6,16 @@ use lib.ListN.{length}
 use Rattle.description.specs.Declarations.{Description}
 use Rattle.description.specs.Meaning.{describes}
 use Rattle.sequences.specs.Results.{Result, andThen}
-use Rattle.picture.specs.Answers.{sizeOf, verdictOn}
+use Rattle.judging.specs.Answers.{verdictOn}
+use Rattle.picture.specs.Answers.{sizeOf}
 use Rattle.picture.specs.Calls.{fitted, pictureCall, bufferAfter}
 use Rattle.picture.specs.Picture.{picture}
 use borrow.Author.Needs.{needs}
 use Rattle.picture.proofs.picture.Statement.{statement}
 use Rattle.picture.proofs.picture.Tie as tie
 
-judged-requires : tie.Need-judged-requires
-judged-requires c κs = search needs
+accept-secure-requires : tie.Need-accept-secure-requires
+accept-secure-requires c κs = search needs
 
 enum-known-verdict : tie.Need-enum-known-verdict
 enum-known-verdict c = search needs
@@ -37,29 +38,29 @@ unfolding pictureCall
 returns c =
     let written = c .before .before .written .ensures in
     let told = c .before .before .before .before .before in
-    let judged = told .before .before .judged in
+    let accept = told .before .before .accept-secure in
     let args = told .before .before .before .before .before .before .args in
     let buffer = args .buffer .now in
     let call = called (args .placement) (length buffer) in
-    let accepted = sym (judged .ensures) ∙ ap (λ v. verdictOn v (describes (judged .last .1 .1 .0))) (told .enum-told .given .1) in
+    let accepted = sym (accept .ensures) ∙ ap (λ v. verdictOn v (describes (accept .last .1 .1 .0))) (told .enum-told .given .1) in
     (written .0 ∙ sym (ap (λ r. sizeOf (call r)) accepted), written .1 ∙ sym (ap (λ r. bufferAfter (call r) buffer) accepted))
 
 returns-2 : tie.Need-returns-2
 unfolding pictureCall bufferAfter
 returns-2 c =
     let known = c .before in
-    let judged = known .before .before .judged in
+    let accept = known .before .before .accept-secure in
     let args = known .before .before .before .before .before .before .args in
     let buffer = args .buffer .now in
     let call = called (args .placement) (length buffer) in
-    let refusal = sym (judged .ensures) ∙ ap (λ v. verdictOn v (describes (judged .last .1 .1 .0))) (known .verdict .given .1) in
+    let refusal = sym (accept .ensures) ∙ ap (λ v. verdictOn v (describes (accept .last .1 .1 .0))) (known .verdict .given .1) in
     (sym (ap (λ r. sizeOf (call r)) refusal), sym (ap (λ r. bufferAfter (call r) buffer) refusal))
 
 pub picture-spec : {M : Type 1} → statement M
 picture-spec =
     tie.close
     (tie.spec
-    judged-requires
+    accept-secure-requires
     enum-known-verdict
     enum-told
     written-requires

@@ -7,13 +7,13 @@ use Rattle.security.specs.declared.answers.Verdict.the-variants.{Secure, Refuse
 use Rattle.security.specs.Answers.{judgeAnswer}
 use Rattle.security.specs.Placements.{judge}
 use Rattle.security.specs.Soundness.{read}
 use Rattle.judging.proofs.Admissions.{is-accepted, is-refused, masks-accepted}
 use Rattle.sequences.specs.Results.{ok, andThen}
-use Rattle.picture.specs.Answers.{verdictOn}
-use Rattle.picture.specs.Calls.{judged}
+use Rattle.judging.specs.Answers.{verdictOn}
+use Rattle.judging.specs.Calls.{judged}
 use borrow.Author.Needs.{needs}
-use Rattle.picture.proofs.judged.Statement.{statement}
-use Rattle.picture.proofs.judged.Tie as tie
+use Rattle.judging.proofs.acceptance.accept_secure.Statement.{statement}
+use Rattle.judging.proofs.acceptance.accept_secure.Tie as tie
 
 on-verdict : (v : Verdict) (d : Description) → verdictOn v d ≡ andThen (judgeAnswer v) (λ secure. ok d)
 on-verdict Secure d = refl
@@ -61,7 +61,7 @@ returns-2 c =
     let refusal = is-refused (describes (accept .last .1 .0)) (read (a .description .now)) (accept .ensures .0) (told .0 .0) (told .1) in
     sym (ap (λ r. andThen r (λ (x : Description). andThen (judge x (a .placement)) (λ (u : Unit {0}). ok x))) refusal)
 
-pub judged-spec : {M : Type 1} → statement M
-judged-spec =
+pub accept-secure-spec : {M : Type 1} → statement M
+accept-secure-spec =
     tie.close
     (tie.spec accept-with-masks-requires enum-told verdict-requires enum-known-admission returns returns-2)

@@ -1,0 +1,4 @@
+pub mod Costs
+pub mod Interview
+pub mod Refusals
+pub mod Billing

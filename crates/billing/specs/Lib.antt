@@ -1,0 +1,5 @@
+pub mod Answers
+pub mod Calls
+pub mod Charges
+pub mod Interview
+pub mod Statements

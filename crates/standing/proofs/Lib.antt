@@ -1,0 +1,3 @@
+pub mod Explaining
+pub mod Interview
+pub mod Refusals

@@ -1,0 +1,4 @@
+pub mod Answers
+pub mod Interview
+pub mod Reasons
+pub mod Statements
