@@ -20,9 +20,15 @@ import re
 import subprocess
 import sys
 
-from bruteforce import ROOT, require, stored_bytes
-from cases import cases_in, cursor_bytes, known_row, row_line, verdict, with_length
-from model import Refused, count_candidates, listing, read, row_at
+from model.cases.answers import row_line
+from model.cases.descriptions import known_row
+from model.cases.making import cases_in, cursor_bytes, with_length
+from model.common import ROOT, require, stored_bytes
+from model.definitions.calls import listing, read
+from model.definitions.description import Refused
+from model.definitions.options import row_at
+from model.definitions.placements import verdict
+from model.definitions.rules import count_candidates
 
 PROGRAMS = ROOT / "target" / "bin"
 NUMBER = r"(0|[1-9][0-9]*)"

@@ -1,0 +1,10 @@
+"""The checks of the stored cases: are the answers right, and do they show what they should?
+
+    stored          the whole check, and that of cases from before labels had marks
+    examples        what is known by hand of the examples
+    options         Census and Draw
+    copies          the price of copies
+    picture         Picture and Picture size
+    masks           Masks
+    labels          labels with marks, of every call; label_table, label_lists
+"""
