@@ -1,11 +1,11 @@
 #!/usr/bin/env python3
 """The brute-force model (the package `model` beside this file) as a command.
 
-    bruteforce.py answer [--letters RJTCDPBM]        cases in, one line for each out
-    bruteforce.py list                               a description in, its rows out
-    bruteforce.py generate [--letters RJTCDPBM] DIR  write DIR/stdin and DIR/stdout
-    bruteforce.py check [--letters RJTCDPBM] DIR     are they what would be written today?
-    bruteforce.py kept DIR                           do those from before answer as they did?
+    bruteforce.py answer [--letters RJTCDPBMAW]        cases in, one line for each out
+    bruteforce.py list                                 a description in, its rows out
+    bruteforce.py generate [--letters RJTCDPBMAW] DIR  write DIR/stdin and DIR/stdout
+    bruteforce.py check [--letters RJTCDPBMAW] DIR     are they what would be written today?
+    bruteforce.py kept DIR                             do those from before answer as they did?
 """
 
 import argparse

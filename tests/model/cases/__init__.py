@@ -8,7 +8,7 @@
 
 A call has its cases in a module of its name, and what it asks about in modules beside it:
 
-    read, read_pairs; judge; transfers; masks
+    read, read_pairs; judge; transfers; masks; bill; standing
     picture         with Picture size; known_pictures
     census, draw    known_lists, merging, flows
     copies          for Transfers, Census and Draw

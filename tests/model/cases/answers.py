@@ -1,10 +1,10 @@
 """The cases as the program callcases reads them, and the line that answers each, by the model."""
 
-from model.definitions.calls import (census, draw, judge, masks, picture, picture_size, read,
-                                     transfers)
+from model.definitions.calls import (bill, census, draw, judge, masks, picture, picture_size, read,
+                                     standing, transfers)
 from model.definitions.description import MOST_BLOCKS, Refused
 
-LETTERS = "RJCDTPBM"
+LETTERS = "RJCDTPBMAW"
 MOST_ROOM = 2048                # bytes of a lent buffer
 FILLER = 0xA5                   # what a lent buffer holds before the call
 
@@ -107,11 +107,27 @@ def bytes_in(line):
     return bytes.fromhex(line.split()[1])
 
 
+def answer_bill(text, tape):
+    placement = tape.take(16)
+    return bill_line(bill(text, placement))
+
+
+def bill_line(amounts):
+    return " ".join(map(str, ("bill", sum(amounts), *amounts)))
+
+
+def answer_standing(text, tape):
+    position, cloud = tape.number(1), tape.number(1)
+    return f"standing {standing(text, position, cloud)}"
+
+
 # How many bytes of operands follow the description.
-OPERANDS = {"R": 0, "J": 16, "C": 0, "D": 25, "T": 18, "P": 18, "B": 16, "M": 0}
+OPERANDS = {"R": 0, "J": 16, "C": 0, "D": 25, "T": 18, "P": 18, "B": 16, "M": 0, "A": 16,
+            "W": 2}
 
 ANSWERS = {"R": answer_read, "J": answer_judge, "C": answer_census, "D": answer_draw,
-           "T": answer_transfers, "P": answer_picture, "B": answer_size, "M": answer_masks}
+           "T": answer_transfers, "P": answer_picture, "B": answer_size, "M": answer_masks,
+           "A": answer_bill, "W": answer_standing}
 
 
 def answer_one(tape, letters):

@@ -183,3 +183,11 @@ class Known(NamedTuple):
 def known_row(price, clouds, *amounts):
     parts = Amounts(*map(int, amounts or (price, 0, 0)))
     return Row(int(price), placed(*map(int, clouds)), parts)
+
+
+class Barred(NamedTuple):
+    """A description and a placement, and what refuses them, whatever buffer is lent."""
+    text: bytes
+    placement: bytes
+    number: int
+    place: int

@@ -4,8 +4,8 @@ from typing import NamedTuple
 
 from model.cases.descriptions import (ALL_READ, EIGHT_TWOS, GUARDED, LONGEST, LONGEST_APART, M,
                                       MIXED_COMMANDS, MIXED_EDGES, M_APART, REFUSED_BY_READ, SECOND,
-                                      SIXTEEN_BLOCKS, STEPS, THIRTY_TWO_EDGES, TWO_BY_TWO, meeting,
-                                      together)
+                                      SIXTEEN_BLOCKS, STEPS, THIRTY_TWO_EDGES, TWO_BY_TWO, Barred,
+                                      meeting, together)
 from model.cases.making import STOP, cloud, datum, pin, placed, reads, service, writes
 
 
@@ -328,14 +328,6 @@ def known_pictures():
 
 
 # ---- Placements without a picture, by hand ---------------------------------------------
-
-class Barred(NamedTuple):
-    """A description and a placement, and what refuses them, whatever the buffer."""
-    text: bytes
-    placement: bytes
-    number: int
-    place: int
-
 
 def barred():
     for text, number, place in REFUSED_BY_READ:

@@ -4,8 +4,8 @@ from typing import NamedTuple
 
 from model.cases.chance import (assorted_candidates, commands_of, random_placement, random_workflow,
                                 rooms)
-from model.cases.descriptions import M
-from model.cases.known_pictures import Barred, known_picture
+from model.cases.descriptions import M, Barred
+from model.cases.known_pictures import known_picture
 from model.cases.label_lists import M_SOURCE, TWO_SIDES, cleared_pipe
 from model.cases.labels import (BARRED_BY_MARKS, BOTH, MARKS, REFUSED_BY_MARKS, add_marks, carried,
                                 moving, relabelled, spoilt_text)

@@ -11,7 +11,7 @@ import functools
 import itertools
 
 from model.cases.chance import commands_of
-from model.cases.known_pictures import Barred
+from model.cases.descriptions import Barred
 from model.cases.making import STOP, cloud, datum, placed, reads, service, writes
 from model.definitions.description import (CLOUD, DATUM, EMBARGO, HIGHEST_LABEL, SERVICE, SOURCE,
                                            Datum, Description, Refused, commands_in, fault)

@@ -24,10 +24,12 @@ class Case(NamedTuple):
     def text(self):
         return self.content[3:3 + int.from_bytes(self.content[1:3], "big")]
 
+    def operands(self):
+        return self.content[3 + len(self.text()):]
+
     def placement(self):
-        """What follows the description in all cases but those of Read, Masks, Census and Draw."""
-        after = 3 + len(self.text())
-        return self.content[after:after + 16]
+        """The first operand of Judge, Transfers, Picture, Picture size and Bill."""
+        return self.operands()[:16]
 
 
 def with_length(letter, text):
@@ -109,6 +111,14 @@ def size_case(text, placement, expected=None):
 
 def masks_case(text, expected=None):
     return Case(with_length(b"M", text), expected)
+
+
+def bill_case(text, placement, expected=None):
+    return Case(with_length(b"A", text) + placement, expected)
+
+
+def standing_case(text, position, to, expected=None):
+    return Case(with_length(b"W", text) + bytes([position, to]), expected)
 
 
 def census_case(text, expected=None):

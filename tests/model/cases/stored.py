@@ -3,6 +3,7 @@
 import itertools
 
 from model.cases.answers import answer_all
+from model.cases.bill import bill_cases, label_bills
 from model.cases.census import census_cases, census_labels
 from model.cases.chance import dice_of
 from model.cases.draw import draw_cases, draw_labels
@@ -12,6 +13,7 @@ from model.cases.label_moves import label_pictures, label_sizes, label_transfers
 from model.cases.masks import mask_cases
 from model.cases.picture import picture_cases, size_cases
 from model.cases.read import read_cases
+from model.cases.standing import label_standings, standing_cases
 from model.cases.transfers import transfers_cases
 from model.common import require, text_of
 
@@ -20,7 +22,8 @@ from model.common import require, text_of
 GROUPS = {"R": (read_cases, label_reads), "J": (judge_cases, label_judgements),
           "T": (transfers_cases, label_transfers), "C": (census_cases, census_labels),
           "D": (draw_cases, draw_labels), "P": (picture_cases, label_pictures),
-          "B": (size_cases, label_sizes), "M": (mask_cases, label_masks)}
+          "B": (size_cases, label_sizes), "M": (mask_cases, label_masks),
+          "A": (bill_cases, label_bills), "W": (standing_cases, label_standings)}
 
 
 def stored_cases(letters):

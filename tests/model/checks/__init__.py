@@ -6,5 +6,7 @@
     copies          the price of copies
     picture         Picture and Picture size
     masks           Masks
+    bill            Bill
+    standing        Standing, and what it says of the placements of all other calls
     labels          labels with marks, of every call; label_table, label_lists
 """

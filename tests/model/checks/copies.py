@@ -14,6 +14,13 @@ from model.definitions.rules import allowed, count_candidates
 LOOKED_AT = 200                 # of the rows of a description, so many
 
 
+def transfers_of(text, placement):
+    """The answer of Transfers: of each transfer the edge, the datum, from and to."""
+    buffer = bytearray(4 * len(read(text).edges))
+    for at in range(transfers(text, placement, buffer)):
+        yield tuple(buffer[4 * at:4 * at + 4])
+
+
 def copies_of(text, placement):
     """What each copy is charged: its command, its datum, the cloud where it lies, the charge.
 
@@ -21,9 +28,7 @@ def copies_of(text, placement):
     comes from.
     """
     described = read(text)
-    buffer = bytearray(4 * len(described.edges))
-    for at in range(transfers(text, placement, buffer)):
-        edge, moved, source, destination = buffer[4 * at:4 * at + 4]
+    for edge, moved, source, destination in transfers_of(text, placement):
         command = described.edges[edge].command
         lies_on = destination if command == READS else source
         rate = described.clouds[lies_on].storage_rate
@@ -34,13 +39,18 @@ def price_of_copies(text, placement):
     return sum(charge for *_, charge in copies_of(text, placement))
 
 
+def price_of_data(text, placement):
+    """What data are charged for the months that they are kept, without their copies."""
+    described = read(text)
+    return sum(described.clouds[placement[b]].storage_rate * gigabytes(block.size)
+               * block.longevity
+               for b, block in enumerate(described.blocks) if isinstance(block, Datum))
+
+
 def storage_misfit(text, line):
     """How the storage of a drawn row contradicts its transfers, or None."""
-    described, row = read(text), known_row(*line.split()[1:])
-    at_home = sum(described.clouds[row.placement[b]].storage_rate * gigabytes(block.size)
-                  * block.longevity
-                  for b, block in enumerate(described.blocks) if isinstance(block, Datum))
-    due = at_home + price_of_copies(text, row.placement)
+    row = known_row(*line.split()[1:])
+    due = price_of_data(text, row.placement) + price_of_copies(text, row.placement)
     return None if row.amounts.storage == due else f"its storage should be {due}"
 
 

@@ -5,9 +5,9 @@ import re
 from model.cases.answers import LETTERS, answer_all, untouched
 from model.cases.descriptions import M, M_APART, SECOND
 from model.cases.known_pictures import INTERVIEW_PICTURE
-from model.cases.making import (STOP, cloud, cursor_bytes, datum, draw_case, judge_case, masks_case,
-                                picture_case, placed, read_case, size_case, transfers_case,
-                                with_length)
+from model.cases.making import (STOP, bill_case, cloud, cursor_bytes, datum, draw_case, judge_case,
+                                masks_case, picture_case, placed, read_case, size_case,
+                                standing_case, transfers_case, with_length)
 from model.common import ROOT, refusal_of, require, stored_bytes, text_of
 from model.definitions.calls import (census, draw, judge, listing, masks, picture, picture_size,
                                      read, rows)
@@ -79,6 +79,24 @@ def check_interview_masks():
                 "masks of the interview")
 
 
+def check_interview_bills():
+    """Two placements of M that are rows, one that costs as much as its row, and one refused."""
+    for clouds, line in (((1, 1, 1, 1, 1), "bill 2820 1320 0 1500"),
+                         ((1, 1, 0, 0, 0), "bill 2970 1370 100 1500"),
+                         ((1, 1, 1, 0, 0), "bill 2970 1370 100 1500"),
+                         ((1, 0, 0, 0, 0), "refused 14 0")):
+        case = bill_case(M, placed(*clouds))
+        require(answer_all(case.content, "A") == [line], f"bill of the interview: {clouds}")
+
+
+def check_interview_standings():
+    """Datum 0 of M may use cloud 1 alone, and positions from 5 on have no block."""
+    for position, to, reason in ((0, 0, 2), (0, 1, 0), (0, 2, 1), (5, 0, 0), (5, 1, 4),
+                                 (255, 9, 4)):
+        lines = answer_all(standing_case(M, position, to).content, "W")
+        require(lines == [f"standing {reason}"], f"standing of the interview: {position}, {to}")
+
+
 def check_bad_cases():
     """What is no case ends the answers."""
     whole = read_case(M).content
@@ -90,7 +108,8 @@ def check_bad_cases():
                            (judge_case(M, placed()).content[:-1], ["bad case"])):
         require(answer_all(content, "RJT") == lines, f"bad case: {content.hex()}")
     for case in (read_case(M), draw_case(M, None), picture_case(M, placed(), 5),
-                 size_case(M, placed()), masks_case(M)):
+                 size_case(M, placed()), masks_case(M), bill_case(M, placed()),
+                 standing_case(M, 0, 0)):
         for length in range(1, len(case.content)):
             cut = case.content[:length]
             require(answer_all(cut, LETTERS) == ["bad case"], f"{case.letter()} cut at {length}")

@@ -10,7 +10,7 @@ from model.definitions.calls import read
 from model.definitions.description import (EMBARGO, HIGHEST_LABEL, HIGHEST_LEVEL, READS, SOURCE,
                                            Refused, decode)
 from model.definitions.placements import ends
-from model.definitions.rules import covers, label_of, level
+from model.definitions.rules import MAY, NOT_COVERED, covers, label_of, level
 
 NAMES = {EMBARGO: "the embargo mark", SOURCE: "the source mark", BOTH: "both marks"}
 BY_A_MARK = {"for want of the embargo mark", "for want of the source mark",
@@ -39,9 +39,11 @@ BOUNDS = {*(f"{label} for {field}, refused with 5" for label in (64, 79, 128, 25
 KINDS = {"R": refusals((9, 10, 11), SHAPES) | rules_kept(2, 3, 4) | BOUNDS,
          "J": refusals((9, 10, 11), BY_A_MARK) | refusals((13, 14, 15), SHAPES)
          | rules_kept(7, 16, 17),
-         **dict.fromkeys("TPB", refusals(COVERING, BY_A_MARK) | rules_kept(7, 16, 17)),
+         **dict.fromkeys("TPBA", refusals(COVERING, BY_A_MARK) | rules_kept(7, 16, 17)),
          **dict.fromkeys("CD", refusals((9, 10, 11), BY_A_MARK)),
-         "M": refusals((9, 10, 11), BY_A_MARK) | {*CLOUD_TRAITS}}
+         "M": refusals((9, 10, 11), BY_A_MARK) | {*CLOUD_TRAITS},
+         "W": refusals((9, 10, 11), BY_A_MARK) | {f"reason 2 {shape}" for shape in SHAPES}
+         | rules_kept(7)}
 
 
 def shapes(upper, lower):
@@ -134,6 +136,17 @@ def kinds_kept(kept):
     return {f"rule {rule} kept with {NAMES[marks(label)]}" for rule, label in kept if marks(label)}
 
 
+def kinds_of_reason(case, reason):
+    """How the labels of a cloud and a block differ that Standing answers this for."""
+    described, (position, to) = read(case.text()), case.operands()
+    if position >= len(described.blocks):
+        return set()
+    label = label_of(described.blocks[position])
+    if reason == NOT_COVERED:
+        return {f"reason 2 {shape}" for shape in shapes(described.clouds[to].label, label)}
+    return kinds_kept([(7, label)]) if reason == MAY else set()
+
+
 def kinds_of(case, line):
     """What a case and its answer show of marks."""
     text, (word, *words) = case.text(), line.split()
@@ -149,7 +162,9 @@ def kinds_of(case, line):
         return found | kinds_kept(kept_by_workflow(read(text)))
     if word == "masks":
         return traits_of_clouds(text)
-    if word in ("secure", "transfers", "picture", "bytes"):
+    if word == "standing":
+        return kinds_of_reason(case, int(words[0]))
+    if word in ("secure", "transfers", "picture", "bytes", "bill"):
         return kinds_kept(kept_by_placement(read(text), case.placement()))
     return set()
 

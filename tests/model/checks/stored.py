@@ -6,20 +6,23 @@ from model.cases.answers import LETTERS, answer_all
 from model.cases.labels import highest_label
 from model.cases.making import cases_in
 from model.cases.stored import answered_cases, contents_of
+from model.checks.bill import check_bills
 from model.checks.copies import check_copies
 from model.checks.examples import (check_apart, check_bad_cases, check_examples, check_halves,
-                                   check_interview, check_interview_masks, check_picture,
-                                   check_second)
+                                   check_interview, check_interview_bills, check_interview_masks,
+                                   check_interview_standings, check_picture, check_second)
 from model.checks.labels import check_labels
 from model.checks.masks import check_masks
 from model.checks.options import check_options, check_sizes
 from model.checks.picture import check_picture_sizes, check_pictures
+from model.checks.standing import check_reasons, check_standings
 from model.common import check_same, require, stored_bytes, text_of
 from model.definitions.description import HIGHEST_LEVEL
 
 NUMBERS_DUE = {"R": range(1, 13), "J": (*range(1, 16), 17), "T": range(1, 18),
                "C": range(1, 13), "D": range(1, 13), "P": range(1, 18),
-               "B": (*range(1, 16), 17), "M": range(1, 13)}
+               "B": (*range(1, 16), 17), "M": range(1, 13), "A": (*range(1, 16), 17),
+               "W": range(1, 13)}
 
 
 def kind_of(line):
@@ -41,28 +44,29 @@ def check_numbers(letter, lines):
     require(not missing, f"no case of {letter} is refused with {missing}")
 
 
+# What is looked for in the answers if all of these letters are checked.
+CHECKS = (("D", check_sizes), ("D", check_copies), ("P", check_pictures),
+          ("PB", check_picture_sizes), ("M", check_masks), ("A", check_bills),
+          ("W", check_standings), ("J", check_reasons))
+
+
+def check_known():
+    """What is known by hand, before any stored case is looked at."""
+    for part in (check_interview, check_apart, check_second, check_halves, check_picture,
+                 check_interview_masks, check_interview_bills, check_interview_standings,
+                 check_bad_cases, check_examples):
+        part()
+
+
 def check(letters, directory):
-    check_interview()
-    check_apart()
-    check_second()
-    check_halves()
-    check_picture()
-    check_interview_masks()
-    check_bad_cases()
-    check_examples()
+    check_known()
     cases, lines = answered_cases(letters)
     for name, made in (("stdin", contents_of(cases)), ("stdout", text_of(lines))):
         check_same(directory / name, stored_bytes(directory / name), made)
     check_options(cases)
-    if "D" in letters:
-        check_sizes(cases, lines)
-        check_copies(cases, lines)
-    if "P" in letters:
-        check_pictures(cases, lines)
-    if {"P", "B"} <= set(letters):
-        check_picture_sizes(cases, lines)
-    if "M" in letters:
-        check_masks(cases, lines)
+    for needed, part in CHECKS:
+        if set(needed) <= set(letters):
+            part(cases, lines)
     for letter in letters:
         answered = [(case, line) for case, line in zip(cases, lines) if case.letter() == letter]
         own = [line for _, line in answered]

@@ -5,7 +5,7 @@ each one, group the secure ones by option, keep the first of every group, sort. 
 nothing with what it is compared to.
 
     description     what the bytes declare, and refusals 1 to 8
-    rules           labels, the rules of a workflow, the clouds that each block may use
+    rules           labels, the rules of a workflow, the clouds that each block may use, standing
     placements      candidates, what is secure, transfers
     costs           the amounts of a placement
     options         which placements are one option, and the rows

@@ -5,12 +5,13 @@ import functools
 import itertools
 from typing import NamedTuple
 
+from model.definitions.costs import amounts_of
 from model.definitions.description import READS, WRITES, Refused, decode
 from model.definitions.options import Row, option_of, rows_of
 from model.definitions.picture import picture_of
 from model.definitions.placements import (candidates, check_placement, first_broken, first_meeting,
                                           moves)
-from model.definitions.rules import check_workflow, masks_of
+from model.definitions.rules import check_workflow, masks_of, standing_of
 
 KEPT = 2048                     # answers remembered: one description serves many cases
 
@@ -28,6 +29,16 @@ def masks(text):
 
 def judge(text, placement):
     check_placement(read(text), placement)
+
+
+def standing(text, position, cloud):
+    return standing_of(read(text), position, cloud)
+
+
+def bill(text, placement):
+    """The amounts of any secure placement."""
+    judge(text, placement)
+    return amounts_of(read(text), placement)
 
 
 class Census(NamedTuple):

@@ -1,6 +1,6 @@
 """The rules of a workflow: labels, the clouds that each block may use, and refusals 9 to 12.
 
-Parts: labels; rules 2, 3, 4 and 7 and the pins; the masks.
+Parts: labels; rules 2, 3, 4 and 7 and the pins; the masks; standing.
 """
 
 import math
@@ -102,3 +102,23 @@ def is_permitted(described, b, k):
 def masks_of(described):
     return bytes(sum(2 ** k for k in range(MOST_CLOUDS) if is_permitted(described, b, k))
                  for b in range(MOST_BLOCKS))
+
+
+# ---- Standing: may a position have a cloud, and if not, why ------------------------------
+
+MAY, NO_SUCH_CLOUD, NOT_COVERED, PINNED_ELSEWHERE, NO_BLOCK = range(5)
+
+
+def standing_of(described, position, cloud):
+    """The first of the tests of number 13 that fails, for any two numbers.
+
+    Each test by itself, and not `may_stand`: so the reasons can be compared with what Judge says.
+    """
+    if position >= len(described.blocks):
+        return MAY if cloud == 0 else NO_BLOCK
+    if cloud >= len(described.clouds):
+        return NO_SUCH_CLOUD
+    if not covers(described.clouds[cloud].label, label_of(described.blocks[position])):
+        return NOT_COVERED
+    pinned = position in described.pins
+    return PINNED_ELSEWHERE if pinned and described.pins[position] != cloud else MAY
