@@ -109,10 +109,7 @@ def bytes_in(line):
 
 def answer_bill(text, tape):
     placement = tape.take(16)
-    return bill_line(bill(text, placement))
-
-
-def bill_line(amounts):
+    amounts = bill(text, placement)
     return " ".join(map(str, ("bill", sum(amounts), *amounts)))
 
 

@@ -6,7 +6,6 @@ marks.
 
 import itertools
 
-from model.cases.answers import bill_line
 from model.cases.chance import (apart_workflow, assorted_candidates, bend, commands_of,
                                 damage_bytes, random_placement, random_workflow, spoil)
 from model.cases.copies import COPIES, PRICED, kept, shorten
@@ -21,7 +20,6 @@ from model.cases.making import STOP, bill_case, cloud, datum, placed, reads, ser
 from model.cases.merging import pipes_with_prices
 from model.cases.picture import pinned_workflow
 from model.definitions.calls import read
-from model.definitions.costs import Amounts
 from model.definitions.placements import candidates
 
 
@@ -29,7 +27,8 @@ from model.definitions.placements import candidates
 
 def given_bill(text, clouds, storage=0, transfer=0, cpu=0):
     """A case whose amounts are known, with a digit for the cloud of each block."""
-    return bill_case(text, placed(*map(int, clouds)), bill_line(Amounts(storage, transfer, cpu)))
+    return bill_case(text, placed(*map(int, clouds)),
+                     f"bill {storage + transfer + cpu} {storage} {transfer} {cpu}")
 
 
 def refused_bill(text, clouds, number, place):
@@ -145,7 +144,7 @@ def bill_of_known_rows():
     for known in (*KNOWN, *COPIES):
         found = known.found()
         for row in dict.fromkeys(found[:1] + found[-1:]):
-            yield bill_case(known.text, row.placement, bill_line(row.amounts))
+            yield given_bill(known.text, row.placement, *row.amounts)
 
 
 # ---- Placements that have none ---------------------------------------------------------
