@@ -76,6 +76,7 @@ UNEVEN = {"000": (0, 1, 2), "001": (3, 4, 5), "010": (2, 5, 8), "011": (1, 4, 7)
           "100": (3, 4, 5), "101": (6, 7, 8), "110": (1, 4, 7), "111": (0, 3, 6)}
 EVEN = {"000": (0, 2, 4), "001": (2, 4, 6), "010": (4, 6, 8), "011": (2, 4, 6),
         "100": (2, 4, 6), "101": (4, 6, 8), "110": (2, 4, 6), "111": (0, 2, 4)}
+# With rates 3 and 1 the two clouds change places.
 EXCHANGED = {clouds.translate(str.maketrans("01", "10")): amounts
              for clouds, amounts in UNEVEN.items()}
 
