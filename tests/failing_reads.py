@@ -3,7 +3,7 @@
 
     failing_reads.py FOLDER        the programs are in FOLDER
 
-The bytes lie at the end of a mapping behind which nothing is mapped, and the program
+The bytes lie at the end of a mapping after which nothing is mapped, and the program
 reads them through /proc/self/mem: there the kernel gives what is mapped, and then EIO.
 They are those of an example up to every place where it can be cut, the ends of a
 description and of a case among them.  What is read so is no answer: the program must say
@@ -33,7 +33,7 @@ def require(holds, why):
 
 
 def end_of_memory(size):
-    """The address behind new memory for so many bytes or more, where nothing is mapped.
+    """The address after new memory for so many bytes or more, where nothing is mapped.
 
     It is never given back, so it is made by the C library and is no object of Python's.
     """

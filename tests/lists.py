@@ -2,27 +2,33 @@
 """Compares four ways to a list, on every description among the stored cases.
 
 The program listoptions lists in one walk; drawoptions by a chain of draws; callcases
-draws from a cursor that it is given; the brute-force lister knows none of them.  The
-first must print what the last says, and so must drawoptions.  From the start and from
-each row a draw of callcases must answer the next row of the list, and behind the last
+draws from a cursor that it is given; the brute-force model knows none of them.  Both
+listoptions and drawoptions must print what the model says.  From the start and from each
+row a draw of callcases must answer the next row of the list, and after the last row
 `finished`.  The programs are those in target/bin.
 
     lists.py
 
-A long list is not drawn whole: a draw takes a walk of its own.  Of more than MOST_DRAWS
-rows, drawoptions is asked for none, and draws of callcases begin at so many, from the
-first to the last; and the brute-force model lists descriptions of up to QUICK candidates
-and the examples.  Of longer lists it judges and charges the rows that are drawn, and the
-amounts of all others must make up their cost.
+A long list is not drawn whole, since each draw walks over all candidates.  If there are more
+than MOST_DRAWS rows, drawoptions is not asked, and draws of callcases begin at that many of
+them, from the first to the last.  The brute-force model lists descriptions of up to QUICK
+candidates.  Of longer lists it judges and charges the rows that are drawn; of all other rows
+the amounts must make up the cost.
 """
 
 import re
 import subprocess
 import sys
 
-from bruteforce import ROOT, require, stored_bytes
-from cases import cases_in, cursor_bytes, known_row, row_line, verdict, with_length
-from model import Refused, count_candidates, listing, read, row_at
+from model.cases.answers import row_line
+from model.cases.descriptions import known_row
+from model.cases.making import cases_in, cursor_bytes, with_length
+from model.common import ROOT, require, stored_bytes
+from model.definitions.calls import listing, read
+from model.definitions.description import Refused
+from model.definitions.options import row_at
+from model.definitions.placements import verdict
+from model.definitions.rules import count_candidates
 
 PROGRAMS = ROOT / "target" / "bin"
 NUMBER = r"(0|[1-9][0-9]*)"
@@ -66,7 +72,7 @@ def row_in(text, line):
 def check_lines(text, lines):
     """What was printed is what the brute-force model says, as far as it is asked.
 
-    Returns the lines of the rows, or None where the description is refused.
+    Returns the lines of the rows, or None if the description is refused.
     """
     try:
         described = read(text)

@@ -1,25 +1,25 @@
-"""The stored cases of Masks (letter M), and what they must show.
+"""The stored cases of Masks (letter M).
 
-Parts: masks written down by hand; random descriptions; what is looked for in the stored
-answers.
+Parts: masks written down by hand; random descriptions.
 """
 
-import math
-from collections import Counter
+from model.cases.answers import masks_line
+from model.cases.chance import (add_random_edges, commands_of, damage_bytes, damage_commands,
+                                highest_level, random_block, random_cloud, spoil)
+from model.cases.descriptions import (APART_COMMANDS, EIGHT_CLOUDS, EIGHT_PAIRS, GUARDED, LONGEST,
+                                      LONGEST_APART, M, MIXED_COMMANDS, MIXED_EDGES, M_APART,
+                                      REFUSED_BY_READ, SECOND, STEPS, THIRTY_TWO_EDGES, counted,
+                                      meeting)
+from model.cases.making import STOP, cloud, datum, masks_case, pin, reads, service, writes
+from model.definitions.description import (HIGHEST_LEVEL, MOST_BLOCKS, MOST_CANDIDATES, MOST_CLOUDS,
+                                           Description)
+from model.definitions.rules import allowed, count_candidates
 
-from cases import (APART_COMMANDS, EIGHT_CLOUDS, EIGHT_PAIRS, GUARDED, LONGEST, LONGEST_APART, M,
-                   MIXED_COMMANDS, MIXED_EDGES, M_APART, REFUSED_BY_READ, SECOND, STEPS, STOP,
-                   THIRTY_TWO_EDGES, add_random_edges, cloud, commands_of, counted, damage_bytes,
-                   damage_commands, datum, highest_level, masks_case, masks_line, meeting, pin,
-                   random_block, random_cloud, reads, service, spoil, writes)
-from model import (HIGHEST_LEVEL, MOST_BLOCKS, MOST_CANDIDATES, MOST_CLOUDS, Datum, Description,
-                   allowed, candidates, count_candidates, covers, decode, label_of, masks_of, read)
 
-
-# ---- Masks written down by hand -------------------------------------------------------
+# ---- Masks written down by hand --------------------------------------------------------
 
 def given(text, *known):
-    """A case with the byte of each block, and zeros behind the last."""
+    """A case with the byte of each block, and zeros after the last."""
     return masks_case(text, masks_line(bytes(known).ljust(MOST_BLOCKS, b"\0")))
 
 
@@ -47,7 +47,7 @@ def masks_of_the_examples():
 
 
 def masks_of_every_size():
-    """One cloud to eight, before the blocks and behind them; one block to sixteen."""
+    """One cloud to eight, before the blocks and after them; one block to sixteen."""
     for count in range(1, 9):
         known = ALL_OF[count]
         yield given(cloud() * count + datum() + service() + STOP, known, known)
@@ -60,7 +60,7 @@ def masks_of_every_size():
             yield given(cloud(0) + cloud(1) + blocks + STOP, *known)
 
 
-# The levels of eight clouds, and the clouds that are at least at level 0, 1, 2 and so on.
+# The levels of eight clouds, and the clouds at level 0 or higher, 1 or higher, and so on.
 LEVELS = [((0, 1, 2, 3, 4, 5, 6, 7), (0xFF, 0xFE, 0xFC, 0xF8, 0xF0, 0xE0, 0xC0, 0x80, 0x00)),
           ((7, 6, 5, 4, 3, 2, 1, 0), (0xFF, 0x7F, 0x3F, 0x1F, 0x0F, 0x07, 0x03, 0x01, 0x00)),
           ((3, 0, 2, 1, 3, 1, 2, 0), (0xFF, 0x7D, 0x55, 0x11, 0x00)),
@@ -113,7 +113,7 @@ def masks_of_pins():
     for to, known in enumerate((0x01, 0x00, 0x04, 0x08)):
         yield given(gap + pin(0, to) + STOP, known, 0x0D)
         yield given(gap + pin(1, to) + pin(0, 3) + STOP, 0x08, known)
-    # Clouds that are declared behind the pin.
+    # Clouds that are declared after the pin.
     yield given(datum() + cloud() + pin(0, 0) + cloud() * 7 + service() + STOP, 0x01, 0xFF)
     yield given(cloud(0) + datum(1) + pin(0, 0) + cloud(1) + datum(1) + STOP, 0x00, 0x02)
     yield given(cloud(0) + cloud(0) + service(0, 0) + pin(0, 1) + datum(1) + cloud(1) + STOP,
@@ -170,7 +170,7 @@ def masks_of_many():
 
 
 def masks_beside_edges():
-    """Edges and pairs decide nothing, not even where every candidate breaks a rule."""
+    """Edges and pairs decide nothing, not even if every candidate breaks a rule."""
     for text in (THIRTY_TWO_EDGES, MIXED_EDGES):
         yield given(text + STOP, *[0x03] * 16)
     yield given(EIGHT_PAIRS + STOP, *[0x03] * 6)
@@ -189,7 +189,7 @@ def masks_by_hand():
         yield from part()
 
 
-# ---- Random descriptions --------------------------------------------------------------
+# ---- Random descriptions ---------------------------------------------------------------
 
 QUICK = 300                     # candidates, so that their lists are short
 
@@ -228,105 +228,3 @@ def masks_random(dice):
 def mask_cases(dice):
     yield from masks_by_hand()
     yield from masks_random(dice)
-
-
-# ---- What the stored answers must show ------------------------------------------------
-
-KINDS = {*(f"bit {k} set" for k in range(8)), *(f"bit {k} unset" for k in range(8)),
-         *(f"{count} clouds" for count in range(1, 9)),
-         *(f"{count} blocks" for count in range(1, 17)),
-         "nowhere by its label", "nowhere by its pin", "all of eight", "bits 0 and 7 alone",
-         "even bits alone", "odd bits alone", "an undeclared cloud for label 0",
-         "a pinned datum", "a pinned service", "pinned to the lowest", "pinned to the highest",
-         "pinned between", "a cloud that does not cover the clearance", "no candidates",
-         "one candidate", "16 blocks of 2 clouds", "65,536 candidates"}
-
-
-def bytes_in(line):
-    return bytes.fromhex(line.split()[1])
-
-
-def bits_in(found):
-    """Blocks choose freely of each other, so their bits multiply."""
-    return math.prod(byte.bit_count() for byte in found)
-
-
-def kinds_of_bits(clouds, byte):
-    """What the byte of a block shows by itself, where so many clouds are declared."""
-    kinds = {f"bit {k} {'set' if byte >> k & 1 else 'unset'}" for k in range(clouds)}
-    for kind, bits in (("all of eight", 0xFF), ("bits 0 and 7 alone", 0x81),
-                       ("even bits alone", 0x55), ("odd bits alone", 0xAA)):
-        if byte == bits:
-            kinds.add(kind)
-    return kinds
-
-
-def kinds_of_pin(described, b, byte):
-    """What a block's pin shows, beside the clouds that would do without it."""
-    if b not in described.pins:
-        return set()
-    would_do = [k for k, each in enumerate(described.clouds)
-                if covers(each.label, label_of(described.blocks[b]))]
-    if byte == 0:
-        return {"nowhere by its pin"} if would_do else set()
-    kinds = {"a pinned datum" if isinstance(described.blocks[b], Datum) else "a pinned service"}
-    to = would_do.index(described.pins[b])
-    if len(would_do) > 1:
-        last = len(would_do) - 1
-        kinds.add({0: "pinned to the lowest", last: "pinned to the highest"}
-                  .get(to, "pinned between"))
-    return kinds
-
-
-def kinds_of_block(described, b, byte):
-    clouds, block = described.clouds, described.blocks[b]
-    kinds = kinds_of_bits(len(clouds), byte) | kinds_of_pin(described, b, byte)
-    free = b not in described.pins
-    if free and byte == 0:
-        kinds.add("nowhere by its label")
-    if free and label_of(block) == 0 and len(clouds) < MOST_CLOUDS:
-        kinds.add("an undeclared cloud for label 0")
-    used = [each.label for k, each in enumerate(clouds) if byte >> k & 1]
-    if not isinstance(block, Datum) and not all(covers(label, block.clearance) for label in used):
-        kinds.add("a cloud that does not cover the clearance")
-    return kinds
-
-
-def kinds_of(text, line):
-    """What one answer of Masks shows, beside its description."""
-    described, found = read(text), bytes_in(line)
-    blocks = len(described.blocks)
-    kinds = {f"{len(described.clouds)} clouds", f"{blocks} blocks"}
-    for b in range(blocks):
-        kinds |= kinds_of_block(described, b, found[b])
-    count = bits_in(found[:blocks])
-    kinds |= {kind for kind, number in (("no candidates", 0), ("one candidate", 1),
-                                        ("65,536 candidates", MOST_CANDIDATES)) if count == number}
-    if [byte.bit_count() for byte in found] == [2] * MOST_BLOCKS and len(described.clouds) == 8:
-        kinds.add("16 blocks of 2 clouds")
-    return kinds
-
-
-def missing_masks(answered):
-    """Of what the accepted cases should show between them, that which none does."""
-    seen = Counter(kind for text, line in answered for kind in kinds_of(text, line))
-    return sorted(KINDS - set(seen)), seen
-
-
-def misfit(text, line):
-    """How an answer of Masks contradicts the candidates, listed one by one, or None."""
-    if line == "refused 12 0":
-        described = decode(text)
-        few = bits_in(masks_of(described)[:len(described.blocks)]) <= MOST_CANDIDATES
-        return "its bits make few candidates" if few else None
-    if line.startswith("refused"):
-        return None
-    described, found = read(text), bytes_in(line)
-    blocks, listed = len(described.blocks), list(candidates(described))
-    if any(found[blocks:]):
-        return "a bit behind the last block"
-    if bits_in(found[:blocks]) != len(listed):
-        return "its bits make another number of candidates"
-    used = bytes(sum(1 << k for k in {placement[b] for placement in listed})
-                 for b in range(blocks))
-    return "candidates use other clouds" if listed and used != found[:blocks] else None

@@ -4,19 +4,16 @@ A transfer leaves a copy with its service, which is stored there for one month. 
 between its writer and its only reader costs more or less at the one end or at the other by
 what is charged for its own time there and for the copy's month at the other end.
 
-Parts: rows and transfers written down by hand; random descriptions; what the stored ones must
-show.
+Parts: rows and transfers written down by hand; random descriptions.
 """
 
 import itertools
 
-from cases import (ACROSS, ALL_READ, M, SOME_WRITE, STOP, Known, apart, cloud, datum, fork,
-                   known_row, pin, pipe, placed, reads, service, stores, writes)
-from model import (MOST_CANDIDATES, READS, WRITES, Datum, allowed, candidates, census,
-                   count_candidates, gigabytes, is_secure, option_of, read, row_at, rows, transfers)
+from model.cases.descriptions import ACROSS, ALL_READ, M, SOME_WRITE, Known, fork, pipe, stores
+from model.cases.making import STOP, apart, cloud, datum, pin, placed, reads, service, writes
 
 
-# ---- Rows written down by hand --------------------------------------------------------
+# ---- Rows and transfers written down by hand -------------------------------------------
 
 def kept(months):
     """A datum of one gigabyte."""
@@ -31,7 +28,7 @@ M_DEARER = M[:10] + cloud(1, 20, 10, 10, 10) + M[20:]
 # one there and one back.
 SIDE_BY_SIDE = writes(0, 2) + reads(1, 2) + writes(0, 3) + reads(1, 3) + pin(0, 0) + pin(1, 1)
 THERE_AND_BACK = writes(0, 2) + reads(1, 2) + writes(1, 3) + reads(0, 3) + pin(0, 0) + pin(1, 1)
-# Every rate another.
+# Every rate is different.
 PRICED = cloud(0, 2, 3, 5, 7) + cloud(0, 11, 13, 17, 19)
 
 ANYWHERE, ONE_OPTION, TWO_FREE = (8, 0, 0, 0, 8, 6), (2, 0, 0, 0, 2, 1), (2, 0, 0, 0, 2, 2)
@@ -75,14 +72,14 @@ COPIES = [Known(begin + STOP, counts, found) for begin, counts, found in (
     (stores(3, 1) + pipe(kept(2)) + ALONE, TWO_FREE, "6 000, 8 010"),
     (stores(3, 1) + pipe(kept(3)) + ALONE, TWO_FREE, "9 000, 9 010"),
     (stores(3, 1) + pipe(kept(4)) + ALONE, TWO_FREE, "10 010, 12 000"),
-    # Two readers beside each other have a copy each.  Both ends are options of their own.
+    # Two readers on one cloud have a copy each.  Both ends are options of their own.
     (stores(1, 3) + fork(kept(0)) + pin(2, 1) + pin(3, 1), TWO_FREE, "1 0111, 6 0011"),
     (stores(1, 3) + fork(kept(1)) + pin(2, 1) + pin(3, 1), TWO_FREE, "4 0111, 7 0011"),
     (stores(1, 3) + fork(kept(2)) + pin(2, 1) + pin(3, 1), TWO_FREE, "7 0111, 8 0011"),
     (stores(1, 3) + fork(kept(3)) + pin(2, 1) + pin(3, 1), TWO_FREE, "9 0011, 10 0111"),
     (stores(3, 1) + fork(kept(0)) + pin(2, 1) + pin(3, 1), TWO_FREE, "2 0011, 3 0111"),
     (stores(3, 1) + fork(kept(1)) + pin(2, 1) + pin(3, 1), TWO_FREE, "4 0111, 5 0011"),
-    # One reader beside the writer, and three clouds, of which each holds the datum once.
+    # One reader on the cloud of the writer, and three clouds, of which each holds the datum once.
     (stores(1, 3) + fork(kept(0)) + pin(2, 0) + pin(3, 1), TWO_FREE, "2 0101, 3 0001"),
     (stores(1, 3) + fork(kept(1)) + pin(2, 0) + pin(3, 1), TWO_FREE, "4 0001, 5 0101"),
     (stores(1, 2, 4) + fork(kept(0)) + pin(2, 1) + pin(3, 2), (3, 0, 0, 0, 3, 3),
@@ -123,7 +120,7 @@ COPIES = [Known(begin + STOP, counts, found) for begin, counts, found in (
     (stores(1, 3, 4) + pipe(kept(0)) + kept(1) + ACROSS + apart(1, 3), (9, 0, 0, 7, 2, 1),
      "5 0112"),
     # As many copies as there can be, of data that are not kept or kept where it is free, and no
-    # charge for them where only the services' cloud is free.
+    # charge for them if only the services' cloud is free.
     *((cloud(0, 65535, 65535, 65535) * 2 + datum(0, 65535, 0) * 8 + service() * 8 + edges + HALVES,
        (1, 0, 0, 0, 1, 1), "41233573440 0000000011111111 13744524480 27489048960 0")
       for edges in (ALL_READ, SOME_WRITE)),
@@ -170,7 +167,7 @@ COPY_TRANSFERS = [(text + STOP, placed(*map(int, clouds)), entries) for text, cl
 )]
 
 
-# ---- Random descriptions --------------------------------------------------------------
+# ---- Random descriptions ---------------------------------------------------------------
 
 def shorten(dice, made):
     """Data are kept for a month or two or not at all, on clouds of other storage rates."""
@@ -179,146 +176,3 @@ def shorten(dice, made):
     for d in made.data():
         made.blocks[d] = made.blocks[d]._replace(longevity=dice.choice((0, 0, 1, 1, 2)))
     return made
-
-
-# ---- What the stored ones must show ---------------------------------------------------
-
-LOOKED_AT = 200                 # of the rows of a description, so many
-
-
-def copies_of(text, placement):
-    """What each copy is charged: its command, its datum, the cloud where it lies, the charge.
-
-    By the answer of Transfers alone: a read leaves its copy where it goes, a write where it
-    comes from.
-    """
-    described = read(text)
-    buffer = bytearray(4 * len(described.edges))
-    for at in range(transfers(text, placement, buffer)):
-        edge, moved, source, destination = buffer[4 * at:4 * at + 4]
-        command = described.edges[edge].command
-        lies_on = destination if command == READS else source
-        rate = described.clouds[lies_on].storage_rate
-        yield command, moved, lies_on, rate * gigabytes(described.blocks[moved].size)
-
-
-def price_of_copies(text, placement):
-    return sum(charge for *_, charge in copies_of(text, placement))
-
-
-def storage_misfit(text, line):
-    """How the storage of a drawn row contradicts its transfers, or None."""
-    described, row = read(text), known_row(*line.split()[1:])
-    at_home = sum(described.clouds[row.placement[b]].storage_rate * gigabytes(block.size)
-                  * block.longevity
-                  for b, block in enumerate(described.blocks) if isinstance(block, Datum))
-    due = at_home + price_of_copies(text, row.placement)
-    return None if row.amounts.storage == due else f"its storage should be {due}"
-
-
-def beside_rows(text):
-    """Each row with the other placements of its option, where there are any."""
-    described, counts = read(text), census(text)
-    if counts.secure == counts.options or count_candidates(described) == MOST_CANDIDATES:
-        return []                                          # nothing merges, or too much to list
-    option = option_of(described)
-    others = {option(row.placement): (row, []) for row in rows(text)}
-    for placement in candidates(described):
-        if is_secure(described, placement):
-            row, beside = others[option(placement)]
-            if placement != row.placement:
-                beside.append(row_at(described, placement))
-    return [(row, beside) for row, beside in others.values() if beside]
-
-
-def ways_of_copies(text):
-    """How copies settle which placement stands for an option."""
-    ways = set()
-    for row, beside in beside_rows(text):
-        price = {each: price_of_copies(text, each.placement) for each in (row, *beside)}
-        free = min((row, *beside), key=lambda each: (each.cost - price[each], each.placement))
-        if free != row:
-            ways.add("row of less cost by its copies" if row.cost < free.cost
-                     else "row of equal cost by its copies")
-        for other in beside:
-            if row.cost == other.cost and price[row] != price[other]:
-                ways.add("equal cost and other copies")
-            if row.cost < other.cost and price[row] > price[other]:
-                ways.add("row of less cost and dearer copies")
-    return ways
-
-
-def kinds_of_copies(text, found):
-    """What the copies of some rows show."""
-    kinds = set()
-    for row in found:
-        priced = [copy for copy in copies_of(text, row.placement) if copy[-1] > 0]
-        if {command for command, *_ in priced} == {READS, WRITES}:
-            kinds.add("copies of reads and of writes")
-        for (_, one, here, _), (_, other, there, _) in itertools.combinations(priced, 2):
-            if one == other:
-                kinds.add("two copies of a datum on one cloud" if here == there
-                          else "copies of a datum on two clouds")
-    return kinds
-
-
-KEPT = ("not kept", "kept 1 month", "kept longer")
-DEARER = ("first cloud dearer", "second cloud dearer", "equal rates")
-
-
-def shape_between(described, d, low, high):
-    """Which of the two clouds is the dearer for a datum at one end of its way, and how long."""
-    one, other = described.clouds[low].storage_rate, described.clouds[high].storage_rate
-    order = DEARER[0 if one > other else 1 if one < other else 2]
-    return f"{KEPT[min(described.blocks[d].longevity, 2)]}, {order}"
-
-
-def shapes_of_row(described, placement, others):
-    """What a row shows of each datum between its writer and its readers, beside the others."""
-    for d in described.data():
-        writer, readers = described.writer(d), described.readers(d)
-        if writer is None or not readers or gigabytes(described.blocks[d].size) == 0:
-            continue
-        home, start = placement[d], placement[writer]
-        ends = {start, *(placement[reader] for reader in readers)}
-        if len(readers) > 1:
-            moved = {placement[:d] + bytes([end]) + placement[d + 1:] for end in ends - {start}}
-            if home == start and moved & others:
-                yield "two readers, a row for either end"
-        elif ends == {home}:
-            yield "writer and reader on one cloud"
-        elif len(ends) == 2 and home in ends and d in described.pins:
-            yield "pinned to one of two ends"
-        elif len(ends) == 2 and home in ends and ends <= set(allowed(described, d)):
-            yield shape_between(described, d, *sorted(ends))
-
-
-def shapes_of(described, found):
-    placements = {row.placement for row in found}
-    return {shape for placement in placements
-            for shape in shapes_of_row(described, placement, placements)}
-
-
-COPY_TRAITS = ("row of less cost by its copies", "row of equal cost by its copies",
-               "equal cost and other copies", "row of less cost and dearer copies",
-               "rows in another order by copies", "storage of copies alone",
-               "copies of reads and of writes", "two copies of a datum on one cloud",
-               "copies of a datum on two clouds", "writer and reader on one cloud",
-               "pinned to one of two ends", "two readers, a row for either end",
-               *(f"{kept_for}, {order}" for kept_for in KEPT for order in DEARER))
-
-
-def copy_traits(text):
-    """What a description may show of copies; the stored ones must show all of it between them."""
-    described, found = read(text), rows(text)[:LOOKED_AT]
-    shown = ways_of_copies(text) | kinds_of_copies(text, found) | shapes_of(described, found)
-
-    def without_copies(row):
-        return row.cost - price_of_copies(text, row.placement), row.placement
-
-    if sorted(found, key=without_copies) != found:
-        shown.add("rows in another order by copies")
-    if (not any(described.blocks[d].longevity for d in described.data())
-            and any(row.amounts.storage > 0 for row in found)):
-        shown.add("storage of copies alone")
-    return {trait: trait in shown for trait in COPY_TRAITS}
