@@ -1,4 +1,4 @@
--- The floor of sixteen bytes: byte after byte is packed while it is below 8; at one that is not, the next number scaled up.
+-- The floor of sixteen bytes: bytes are packed one by one while they are below 8; at one that is not, the next number is scaled up.
 use Prim.Native.Nat.{ℕ, zero, suc, _+_, _-_, _*_, _^_, _≤_, _<_}
 use native.Mathlib.Omega.{arith}
 use native.Mathlib.Decide.{ℕ-discrete, decLt}
@@ -69,7 +69,7 @@ floor-after a m (x ∷ bytes) (k ∷ q) e l = elim (decLt x 8) [
   ]
 ]
 
--- what `floorFrom` comes to is the floor
+-- `floorFrom` is the floor
 pub floor-is : (bytes : List ℕ) (n : ℕ) → n ≤ 16 → length bytes ≡ 16 → FloorOf bytes n (floorFrom 0 n bytes)
 unfolding pack
 floor-is bytes n h e = record {

@@ -1,4 +1,4 @@
--- The clouds below `b` are stored, and zeros stand from there on.
+-- The clouds of the blocks below `b` are stored, and zeros follow.
 use Prim.Native.Nat.{_+_, _-_, _≤_}
 use native.Mathlib.Omega.{arith}
 use mathlib.Core.Path.{_≡_, refl, ap, _∙_}
