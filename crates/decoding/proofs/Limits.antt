@@ -68,7 +68,7 @@ rates = each-cloud Bytes RatesFit (λ s d h t. record { storage = u16-fits s h 2
 kinds : Keeps Bytes (λ d. (b : ℕ) → kindFits (block d b .kind))
 kinds = each-block Bytes (λ b. kindFits (b .kind)) (λ s d h t. (u16-fits s h 2, u16-fits s h 4)) (λ s d h t. u32-fits s h 3) (λ b k p. p)
 
--- of what is decoded from bytes, the numbers are in their ranges
+-- if the input is bytes, the numbers are in their ranges
 pub decoded-inRange : (s : List ℕ) (d : Description) → Bytes s → decode s ≡ ok d → InRange d
 decoded-inRange s d h r = record { rates = decoded-bytes rates (λ k. omega arith) s d h r; kinds = decoded-bytes kinds (λ b. omega arith) s d h r }
 
@@ -111,7 +111,7 @@ extends-pin l j k = record {
     b : Block
     b = pinned (getD l j noBlock) k
 
--- edges and pairs name blocks of a kind: `right` tests whether a datum is meant
+-- edges and pairs name blocks of a kind: `right` says whether a datum is meant
 module _ (right : Bool → Bool) where
   abbrev Named : List Block → ℕ → Type 0
   Named l b = ltb b (length l) && right (isDatum (getD l b noBlock .kind)) ≡ true
@@ -123,7 +123,7 @@ module _ (right : Bool → Bool) where
       both-pass (ltb b (length m)) (right (isDatum (getD m b noBlock .kind))) .1
       (lt-ltb b (length m) (omega (arith, e .more)), rw (e .same b h) (q .1))
 
-  -- what stands on one side of each element of a list is named: so it stays with more blocks, and with one more element
+  -- if one side of each element of a list is named, it stays so with more blocks and with one more element
   module _ {A : Type 0} (side : A → ℕ) (z : A) where
     abbrev Each : List Block → List A → Type 0
     Each l xs = (n : ℕ) → n < length xs → Named l (side (getD xs n z))

@@ -1,4 +1,4 @@
--- Decoding refuses with numbers 1 to 8, at an offset of the input, and so, since the first bytes decide, at `decidingBytes` at most.
+-- Decoding refuses with numbers 1 to 8, at an offset of the input; since the first bytes decide, it is at most `decidingBytes`.
 use Prim.Native.Nat.{ℕ, zero, suc, pred, _+_, _≤_, _<_}
 use native.Mathlib.Omega.{arith}
 use mathlib.Core.Path.{_≡_, refl, sym, subst}

@@ -1,4 +1,4 @@
--- On a candidate, the blocks of the pairs' data are declared and stand on declared clouds: so it breaks a pair exactly where two blocks
+-- In a candidate, the blocks of the pairs' data are declared and stand on declared clouds: so it breaks a pair exactly if two blocks
 -- that conflict stand on one cloud.
 use Prim.Native.Nat.{ℕ, _<_}
 use mathlib.Core.Path.{_≡_}

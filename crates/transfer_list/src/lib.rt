@@ -74,7 +74,7 @@ fn transfer_count(w: &Words, placement: [u8; 16]) -> usize
     found
 }
 
-// Edge i's transfer, if it makes one, at an offset of the buffer. The answer is the offset behind it.
+// Writes edge i's transfer, if it makes one, at an offset of the buffer. The answer is the offset after it.
 fn put_transfer(placement: [u8; 16], i: u8, e: Edge, buffer: &mut [u8], at: usize) -> usize
     requires { ⌜ at + length (bytesOf (transfersFrom i placement (e ∷ []))) ≤ length (now buffer) ⌝ }
     ensures { λ r. ⌜ r ≡ at + length (bytesOf (transfersFrom i placement (e ∷ []))) ⌝ }
@@ -106,8 +106,8 @@ fn put_transfers(w: &Words, placement: [u8; 16], buffer: &mut [u8]) -> usize
     at / TRANSFER_BYTES
 }
 
-// How many bytes the transfers need, where that is more than there is room for; otherwise 0. An edge makes one at most: only where room
-// is short for that they have to be counted first.
+// How many bytes the transfers need, if that is more than there is room for; otherwise 0. An edge makes at most one transfer: they have to
+// be counted first only if there is less room than that.
 fn missing(w: &Words, placement: [u8; 16], room: usize) -> usize
     ensures { λ r. ⌜ r ≡ cond (leb (length (bytesOf (transfers (describes (now (w .entry))) placement))) room) 0 (length (bytesOf (transfers (describes (now (w .entry))) placement))) ⌝ }
 {
