@@ -1,4 +1,4 @@
--- Whether a pair from i on does is whether one of all does.
+-- Some pair from i on conflicts exactly if some pair at all does.
 use mathlib.Core.Path.{_≡_, refl, sym, _∙_}
 use native.Mathlib.Omega.{arith}
 use Prim.Native.Nat.{_≤_, _<_, _-_}

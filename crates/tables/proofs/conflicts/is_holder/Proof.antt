@@ -1,4 +1,4 @@
--- The datum itself, or a service that is marked.
+-- The datum itself, or a marked service.
 use Prim.Native.Nat.{_+_, _*_}
 use native.Mathlib.Omega.{arith}
 use mathlib.Core.Path.{sym, ap, _∙_}

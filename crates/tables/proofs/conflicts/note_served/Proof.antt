@@ -29,7 +29,7 @@ edge-at-requires c κs = search needs
 wide-requires : tie.Need-wide-requires Inv-loop μ-loop
 wide-requires c κs = search needs
 
--- the edge at hand names blocks, of which there are sixteen at most
+-- the current edge names blocks, of which there are at most sixteen
 small : (c : tie.After-edge-at Inv-loop μ-loop) → (c .edge-at .result .datum < 16) × (c .edge-at .result .service < 16)
 small c =
     let at = c .before .before in
