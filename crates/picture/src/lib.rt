@@ -50,8 +50,8 @@ fn size(w: &Words, placement: [u8; 16]) -> usize
     draw(w, placement, &mut sheet)
 }
 
-// The text at the front of the buffer, or a refusal with the room that it needs. It is drawn on a sheet of our own first: the buffer is not
-// touched before it is known to be long enough.
+// The text at the front of the buffer, or a refusal with the room that it needs. It is drawn on a separate sheet first: the buffer is not
+// touched until it is known to be long enough.
 fn written(w: &Words, placement: [u8; 16], buffer: &mut [u8]) -> Pictured
     ensures { λ r. ⌜ pictureAnswer r ≡ sizeOf (fitted (length (now (buffer .entry))) (picture (describes (now (w .entry))) placement)) ⌝ }
     ensures { λ _. ⌜ now (buffer .exit) ≡ bufferAfter (fitted (length (now (buffer .entry))) (picture (describes (now (w .entry))) placement)) (now (buffer .entry)) ⌝ }

@@ -1,4 +1,4 @@
--- The nodes by whether the edge moves its datum.
+-- The nodes depend on whether the edge moves its datum.
 use mathlib.Core.Path.{_≡_, sym, ap, ap₂, _∙_}
 use lib.ListN.{getD}
 use borrow.Author.Tests.{not-true, not-false}

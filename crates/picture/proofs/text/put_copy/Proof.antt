@@ -1,4 +1,4 @@
--- The number stands behind the mark, and that behind the node.
+-- The number comes after the mark, and the mark after the node.
 use native.Mathlib.Omega.{arith}
 use mathlib.Core.List.{[], _∷_}
 use Rattle.list_text.specs.Lines.{ascii, decimal}

@@ -1,4 +1,4 @@
--- Byte by byte: what is put so far stands in the sheet.
+-- Byte by byte: what is put so far is in the sheet.
 use Prim.Native.Nat.{ℕ, _+_, _-_, _≤_}
 use native.Mathlib.Numerals.{add-one}
 use native.Mathlib.Omega.{arith}
