@@ -1,6 +1,6 @@
 // What a description declares: clouds, blocks, edges and pairs, each a record of the words that the caller lends.
 ghost use mathlib.Core.Path.{_≡_};
-ghost use Prim.Native.Nat.{_<_, _≤_, _%_, min};
+ghost use Prim.Native.Nat.{_<_, _≤_, min};
 ghost use lib.ListN.{length};
 ghost use Rattle.description.specs.Declarations.{cloud, block, edge, pair, nothing, withCloud, withBlock, withEdge, withPin, withPair};
 ghost use Rattle.description.specs.Declarations.{isDatum, isWrite};

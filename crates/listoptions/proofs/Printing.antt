@@ -23,7 +23,7 @@ use Rattle.survey.proofs.RowsInWords.{rows-few, words-row}
 use Rattle.whole_list.specs.WholeList.{rowWords, listed, needed, capacity, listCall, rowsAfter}
 use Rattle.whole_list.proofs.Answers.{call-goes, rows-go, fitting as rowsFit, fits-room}
 use Rattle.whole_list.proofs.Sorted.{listed-words, listed-length}
-use Rattle.list_text.specs.Lines.{ascii, digit, decimal, amountText, rowLine, optionsLine, refusalLine, written}
+use Rattle.list_text.specs.Lines.{ascii, digit, decimal, amountText, rowLine, optionsLine, written}
 use Rattle.list_text.specs.RowLines.{wordsLine, linesOf, rowsText}
 use Rattle.list_text.proofs.RowLines.{words-line, taken-apart}
 use Rattle.listoptions.specs.Printed.{rowLines, printedFor, printed}

@@ -1,7 +1,7 @@
 // Placements as numbers: the clouds of the blocks as digits to the base 8, which compare as the placements' bytes do.
 ghost use mathlib.Core.Path.{_≡_};
 ghost use mathlib.Core.List.{_++_};
-ghost use Prim.Native.Nat.{_-_, _^_, _≤_, _<_};
+ghost use Prim.Native.Nat.{_-_, _≤_, _<_};
 ghost use lib.ListN.{getD, replicate};
 ghost use Rattle.packing.specs.Floors.{FloorOf};
 ghost use Rattle.packing.specs.Packing.{digits};

@@ -11,7 +11,7 @@ use Rattle.description.specs.declared.workflow.Way.the-variants.{Reads, Writes}
 use Rattle.description.specs.Declarations.{Description}
 use Rattle.security.specs.Soundness.{positions}
 use Rattle.security.specs.Placements.{badPosition, breaks16, breaks17, together, judge, secure, broken16, broken17, brokenApart}
-use Rattle.security.specs.Statements.{Good, Placed, AllKeep, FirstBreaks, AllApart, FirstMeets, Secure}
+use Rattle.security.specs.Statements.{Good, Placed, AllKeep, FirstBreaks, FirstMeets, Secure}
 use Rattle.security.proofs.Deciding.{none-bad, first-bad, none-breaks, first-breaks}
 use Rattle.security.proofs.Meeting.{none-meet, first-meets}
 use Rattle.sequences.specs.Lists.{any, first}

@@ -25,7 +25,6 @@ use Rattle.sequences.proofs.Numbers.{kept-most}
 use Rattle.sequences.proofs.Tests.{both-pass, one-passes, and-fails}
 use Rattle.visit.specs.Tables.{conflictCount, conflict, clashes, apart}
 use Rattle.visit.proofs.Defined.{apart-where}
-use Rattle.sequences.specs.Arrays.{table}
 use Rattle.security.specs.Masks.{padded}
 use Rattle.tables.specs.Building.{Listed, isConflict, conflictsTo, conflictList, conflictsOf, exchangesOf, bytesOf, tablesOf}
 use Rattle.sequences.proofs.Filling.{getD-table, table-zeros}

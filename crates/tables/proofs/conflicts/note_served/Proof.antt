@@ -4,7 +4,6 @@ use native.Mathlib.Omega.{arith}
 use mathlib.Core.Path.{ap, ap₂, _∙_}
 use lib.ListN.{length}
 use borrow.Author.Needs.{needs}
-use Rattle.description.specs.Declarations.{edge}
 use Rattle.description.specs.Meaning.{describes}
 use Rattle.description.proofs.Named.{service-block, datum-block}
 use Rattle.tables.proofs.Serving.{Served, served-lent, served-one, served-all}
