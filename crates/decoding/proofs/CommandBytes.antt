@@ -40,5 +40,6 @@ module _ (s : List ℕ) (d : Description) where
   )
 
   -- an unknown byte is refused with 2
-  pub refuses : {e : Description} {r : Step} → 0 < length s → r ≡ record { fault = Fault 2; width = 1 } → commandAt s d ≡ unknown d → Steps s (commandAt s d) e r
+  pub refuses : {e : Description} {r : Step} → 0 < length s → r ≡ record { fault = Fault 2; width = 1 } → commandAt s d ≡ unknown d
+      → Steps s (commandAt s d) e r
   refuses some f e = rw e (stops s (unknown d) f refl (simp (le-ltb (length s) 1 some)))

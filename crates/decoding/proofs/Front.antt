@@ -91,7 +91,7 @@ front [] n skip at d h k = absurd (omega arith)
 front (b ∷ rest) zero skip at d h k = absurd (omega arith)
 front (b ∷ rest) (suc n) (suc skip) at d h k = front rest n skip (suc at) d (omega arith) (omega arith)
 front (b ∷ rest) (suc n) zero at d h k =
-    one (eqb b 0) (faultOf long c) refl refl (λ e. front rest n (pred (c .width)) (suc at) (c .after) (omega arith) (enough n (c .width) (left d) (left (c .after)) k (width-positive long d) (spends long d e)))
+    one (eqb b 0) (faultOf long c) refl refl (λ e. front rest n (pred (c .width)) (suc at) (c .after) (omega arith) (room e))
   where
     long : List ℕ
     long = b ∷ rest
@@ -111,6 +111,10 @@ front (b ∷ rest) (suc n) zero at d h k =
     same : commandAt short d ≡ c
     same = sym (command-by long short d agree)
 
+    -- what is left is enough for the commands after this one
+    room : faultOf long c ≡ none → pred (c .width) + left (c .after) + 10 ≤ n
+    room e = enough n (c .width) (left d) (left (c .after)) k (width-positive long d) (spends long d e)
+
     unfaulted : faultOf short (commandAt short d) ≡ faultOf long c
     unfaulted = sym (fault-by long short d agree (omega (arith, few)) (omega (arith, few, length-take n rest)))
 
@@ -123,7 +127,8 @@ front (b ∷ rest) (suc n) zero at d h k =
     one false (some m) z q next = (m, at, fails b (take n rest) at d z (unfaulted ∙ q), fails b rest at d z q)
     one false none z q next =
         let (m, p, e, f) = next q in
-        (m, p, goes b (take n rest) at d z (unfaulted ∙ q) ∙ ap (λ x. readFrom (take n rest) (pred (x .width)) (suc at) (x .after)) same ∙ e, goes b rest at d z q ∙ f)
+        let sooner = ap (λ x. readFrom (take n rest) (pred (x .width)) (suc at) (x .after)) same in
+        (m, p, goes b (take n rest) at d z (unfaulted ∙ q) ∙ sooner ∙ e, goes b rest at d z q ∙ f)
 
 pub front-decides : (s : List ℕ) (n : ℕ) → decidingBytes ≤ n → decode (take n s) ≡ decode s
 unfolding decode

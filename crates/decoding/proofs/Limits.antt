@@ -78,13 +78,17 @@ pin-more : (n m : ℕ) → n ≤ m → (p : Pin) → pinBelow n p → pinBelow m
 pin-more n m h Free q = tt
 pin-more n m h (To k) q = omega arith
 
-pins : Keeps Any (λ d. (b : ℕ) → pinBelow (length (d .clouds)) (block d b .pin))
+-- the pin of a block names a declared cloud
+abbrev Pinned : Description → Block → Type 0
+Pinned d x = pinBelow (length (d .clouds)) (x .pin)
+
+pins : Keeps Any (λ d. (b : ℕ) → Pinned d (block d b))
 pins = record {
   cloud = λ s d b p t i. pin-more (length (d .clouds)) _ (simp length-append (omega arith)) (block d i .pin) (p i);
-  datum = λ s d b p t. everywhere-snoc (λ (x : Block). pinBelow (length (d .clouds)) (x .pin)) noBlock (d .blocks) (datumIn s) p tt;
-  service = λ s d b p t. everywhere-snoc (λ (x : Block). pinBelow (length (d .clouds)) (x .pin)) noBlock (d .blocks) (serviceIn s) p tt;
+  datum = λ s d b p t. everywhere-snoc (Pinned d) noBlock (d .blocks) (datumIn s) p tt;
+  service = λ s d b p t. everywhere-snoc (Pinned d) noBlock (d .blocks) (serviceIn s) p tt;
   edge = λ w s d b p t. p;
-  pin = λ s d b p t. everywhere-set (λ (x : Block). pinBelow (length (d .clouds)) (x .pin)) noBlock (d .blocks) (u8At s 1) (pinned (block d (u8At s 1)) (u8At s 2)) p (t .cloud);
+  pin = λ s d b p t. everywhere-set (Pinned d) noBlock (d .blocks) (u8At s 1) (pinned (block d (u8At s 1)) (u8At s 2)) p (t .cloud);
   pair = λ s d b p t. p;
 }
 

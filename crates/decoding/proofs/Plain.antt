@@ -15,8 +15,8 @@ use Rattle.description.specs.declared.workflow.Edge.{Edge}
 use Rattle.description.specs.declared.workflow.Pair.{Pair}
 use Rattle.description.specs.declared.workflow.Way.{Way}
 use Rattle.description.specs.declared.workflow.Way.the-variants.{Reads, Writes}
-use Rattle.description.specs.Declarations.{Description, noEdge, noPair, block, edge, pair, isDatum, isPinned, isWrite, sameWay, sameEdge, writeOneDatum, namesDatum}
-use Rattle.description.specs.Declarations.{namesService}
+use Rattle.description.specs.Declarations.{Description, noEdge, noPair, block, edge, pair, isDatum, isPinned, isWrite}
+use Rattle.description.specs.Declarations.{sameWay, sameEdge, writeOneDatum, namesDatum, namesService}
 use Rattle.sequences.specs.Lists.{any}
 use Rattle.sequences.proofs.First.{first-none, none-found}
 use Rattle.sequences.proofs.Tests.{both-pass, not-passed, or-fails, or-passes}

@@ -30,7 +30,9 @@ module _ (s : List ℕ) (c : Command) {d : Description} {r : Step} where
   }
 
 -- Two edges of one datum clash if both write, or if both read and the service is the same; edges of two data never clash.
-pub clash-is : (e f : Edge) → clash e f ≡ (eqb (e .datum) (f .datum) && cond (isWrite (e .way)) (isWrite (f .way)) (not (isWrite (f .way)) && eqb (e .service) (f .service)))
+pub clash-is : (e f : Edge)
+    → clash e f ≡
+    (eqb (e .datum) (f .datum) && cond (isWrite (e .way)) (isWrite (f .way)) (not (isWrite (f .way)) && eqb (e .service) (f .service)))
 clash-is e f = go (e .way) (f .way) (eqb (e .service) (f .service)) (eqb (e .datum) (f .datum))
   where
     go : (x y : Way) (s d : Bool) → ((sameWay x y && s && d) || (isWrite x && isWrite y && d)) ≡ (d && cond (isWrite x) (isWrite y) (not (isWrite y) && s))

@@ -1,4 +1,4 @@
--- What `drawoptions` prints: a line for each draw of a chain, up to the first that is no row.
+-- What `drawoptions` prints: a line for each draw of a chain, up to and including the first that is no row.
 use Prim.Native.Nat.{ℕ, _≤_, min}
 use mathlib.Core.Path.{_≡_}
 use mathlib.Core.List.{List}

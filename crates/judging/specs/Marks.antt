@@ -27,7 +27,8 @@ pub record Marked : Type 0 where
       (judgeCall (onTwo 16 16 16 ++ reads 1 0 ++ end) (place 1 0 0 0 0) ≡ ok tt) ×
       (judgeCall (onTwo 63 32 32 ++ writes 1 0 ++ end) (place 1 0 0 0 0) ≡ ok tt) ×
       (judgeCall (onTwo 48 1 1 ++ reads 1 0 ++ end) (place 1 0 0 0 0) ≡ refused 14 0)
-  -- clouds of level 15 without marks, level 0 with each mark, level 15 with both; blocks with no mark, with each, with both, and with all
+  -- clouds of level 15 without marks, of level 0 with each mark, of level 15 with both; blocks of level 0 with no mark, with each and with both,
+  -- and one of level 15 with both
   pub masks :
       masksCall (cloud 15 ++ cloud 16 ++ cloud 32 ++ cloud 63 ++ datum 0 ++ datum 16 ++ datum 32 ++ datum 48 ++ service 63 63 ++ end) ≡
       ok (place 15 10 12 8 8)

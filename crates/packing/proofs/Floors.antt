@@ -63,8 +63,13 @@ floor-after a m (x ∷ bytes) (k ∷ q) e l = elim (decLt x 8) [
   | yes u ↦ elim (ℕ-discrete x k) [
     | yes f ↦ rw (f, lt-ltb k 8 (l 0)) (simp (le-ltb k k (omega arith), eq-eqb k k refl) (floor-after (a * 8 + k) m bytes q (omega arith) (λ i. l (suc i))))
     | no f ↦ elim (decLt x k) [
-      | yes v ↦ simp (lt-ltb x 8 u, lt-ltb x k v, le-ltb (packFrom (a * 8 + k) q) (floorFrom (a * 8 + x) (length q) bytes) (floor-most (a * 8 + x) (a * 8 + k) bytes q (omega arith)))
-      | no v ↦ simp (lt-ltb x 8 u, le-ltb x k (omega arith), ne-eqb x k f, lt-ltb (packFrom (a * 8 + k) q) (floorFrom (a * 8 + x) (length q) bytes) (floor-above (a * 8 + k) (a * 8 + x) bytes q (λ i. l (suc i)) (omega arith)))
+      | yes v ↦
+          let most = floor-most (a * 8 + x) (a * 8 + k) bytes q (omega arith) in
+          simp (lt-ltb x 8 u, lt-ltb x k v, le-ltb (packFrom (a * 8 + k) q) (floorFrom (a * 8 + x) (length q) bytes) most)
+      | no v ↦
+          let above = floor-above (a * 8 + k) (a * 8 + x) bytes q (λ i. l (suc i)) (omega arith) in
+          let low = lt-ltb (packFrom (a * 8 + k) q) (floorFrom (a * 8 + x) (length q) bytes) above in
+          simp (lt-ltb x 8 u, le-ltb x k (omega arith), ne-eqb x k f, low)
     ]
   ]
 ]

@@ -54,7 +54,8 @@ fn size(w: &Words, placement: [u8; 16]) -> usize
 // touched until it is known to be long enough.
 fn written(w: &Words, placement: [u8; 16], buffer: &mut [u8]) -> Pictured
     ensures { λ r. ⌜ pictureAnswer r ≡ sizeOf (fitted (length (now (buffer .entry))) (picture (describes (now (w .entry))) placement)) ⌝ }
-    ensures { λ _. ⌜ now (buffer .exit) ≡ bufferAfter (fitted (length (now (buffer .entry))) (picture (describes (now (w .entry))) placement)) (now (buffer .entry)) ⌝ }
+    ensures { λ _. ⌜ now (buffer .exit)
+        ≡ bufferAfter (fitted (length (now (buffer .entry))) (picture (describes (now (w .entry))) placement)) (now (buffer .entry)) ⌝ }
 {
     let mut sheet = [0u8; SHEET_BYTES];
     let count = draw(w, placement, &mut sheet);
@@ -83,7 +84,8 @@ pub fn picture_size(description: &[u8], placement: [u8; 16]) -> Pictured
 // Picture: the text of a secure placement, at the front of the buffer; the answer is how many bytes it has.
 pub fn picture(description: &[u8], placement: [u8; 16], buffer: &mut [u8]) -> Pictured
     ensures { λ r. ⌜ pictureAnswer r ≡ sizeOf (pictureCall (now (description .entry)) placement (length (now (buffer .entry)))) ⌝ }
-    ensures { λ _. ⌜ now (buffer .exit) ≡ bufferAfter (pictureCall (now (description .entry)) placement (length (now (buffer .entry)))) (now (buffer .entry)) ⌝ }
+    ensures { λ _. ⌜ now (buffer .exit)
+        ≡ bufferAfter (pictureCall (now (description .entry)) placement (length (now (buffer .entry)))) (now (buffer .entry)) ⌝ }
 {
     let mut w = [0u32; WORDS];
     let verdict = judged(description, placement, &mut w);

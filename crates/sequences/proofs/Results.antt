@@ -22,12 +22,14 @@ module _ {A : Type 0} where
   unless-ok (some place) number r a = (λ e. absurd (ok-not-refused (sym e)), λ h. absurd (Option·some-ne-none place (h .0)))
 
   -- a refusal with this number, which the rest can't give: its place was found
-  pub unless-here : (found : Option ℕ) (number place : ℕ) (r : Result A) → (r ≡ refused number place → ⊥) → unless found number r ≡ refused number place → found ≡ some place
+  pub unless-here : (found : Option ℕ) (number place : ℕ) (r : Result A) → (r ≡ refused number place → ⊥)
+      → unless found number r ≡ refused number place → found ≡ some place
   unless-here none number place r never e = absurd (never e)
   unless-here (some q) number place r never e = cc
 
   -- a refusal with another number: nothing was found, and the rest gives it
-  pub unless-later : (found : Option ℕ) (number n place : ℕ) (r : Result A) → (number ≡ n → ⊥) → unless found number r ≡ refused n place → (found ≡ none) × (r ≡ refused n place)
+  pub unless-later : (found : Option ℕ) (number n place : ℕ) (r : Result A) → (number ≡ n → ⊥)
+      → unless found number r ≡ refused n place → (found ≡ none) × (r ≡ refused n place)
   unless-later none number n place r other e = (refl, e)
   unless-later (some q) number n place r other e = absurd (other (cc))
 

@@ -29,8 +29,8 @@ use Rattle.sequences.specs.Bits.{bit}
 use Rattle.visit.specs.Tables.{tables, exchange}
 use Rattle.sequences.specs.Bits.{bits}
 use Rattle.security.specs.Masks.{maskOf}
-use Rattle.tables.specs.Building.{ownOf, only, ofPair, pairAt, exchangeBits, exchangeAt, exchangesOf}
-use Rattle.tables.specs.Building.{keptLonger, turnedOf, deciding, decidingBy, betterBy, bitsBy, mayExchange, exchangeBy, exchangesBy, wordsOf, bytesOf, tablesOf}
+use Rattle.tables.specs.Building.{ownOf, only, ofPair, pairAt, exchangeBits, exchangeAt, exchangesOf, keptLonger, turnedOf, deciding}
+use Rattle.tables.specs.Building.{decidingBy, betterBy, bitsBy, mayExchange, exchangeBy, exchangesBy, wordsOf, bytesOf, tablesOf}
 use Rattle.sequences.proofs.Bits.{bit-bits, bits-same, bits-cut}
 use Rattle.sequences.proofs.Filling.{getD-table, getD-tableTo, tableTo-same}
 use Rattle.tables.proofs.Places.{own-in, mask-in, last-in, other-last}

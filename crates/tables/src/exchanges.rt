@@ -257,7 +257,8 @@ pub fn fill_exchanges(
     requires { ⌜ (blocks ≤ 16) × (clouds ≤ 8) ⌝ }
     requires { ⌜ now words ≡ wordsOf (describes (now w)) ⌝ }
     requires { ⌜ drop exchangesFrom (now bytes) ≡ replicate 128 0 ⌝ }
-    ensures { λ _. ⌜ now (bytes .exit) ≡ take exchangesFrom (now (bytes .entry)) ++ exchangesBy (describes (now (w .entry))) (now (bytes .entry)) blocks clouds ⌝ }
+    ensures { λ _. ⌜ now (bytes .exit)
+        ≡ take exchangesFrom (now (bytes .entry)) ++ exchangesBy (describes (now (w .entry))) (now (bytes .entry)) blocks clouds ⌝ }
 {
     let last = blocks * MOST_CLOUDS;
     let mut i = 0;

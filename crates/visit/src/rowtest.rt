@@ -25,7 +25,8 @@ fn is_better(bytes: &TableBytes, m: usize, here: usize, there: usize) -> bool
 fn moves(bytes: &TableBytes, blocks: usize, place: u64, m: usize) -> bool
     requires { ⌜ (blocks ≤ 16) × (m < blocks) ⌝ }
     requires { ⌜ Paired (tables [] (now bytes)) blocks ⌝ }
-    ensures { λ r. ⌜ r ≡ betterOn (tables [] (now (bytes .entry))) (digits blocks place) m (movesTo (tables [] (now (bytes .entry))) (digits blocks place) m) ⌝ }
+    ensures { λ r. ⌜ r
+        ≡ betterOn (tables [] (now (bytes .entry))) (digits blocks place) m (movesTo (tables [] (now (bytes .entry))) (digits blocks place) m) ⌝ }
 {
     let writer = wide(bytes[PAIRS + 2 * m]);
     if MOST_BLOCKS <= writer {

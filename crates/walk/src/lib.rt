@@ -72,7 +72,9 @@ fn walk(
     requires { ⌜ Under (setting (now words) (now bytes) blocks) (blocks - left) left weight place ⌝ }
     requires { ⌜ (0 < left) × Room left (now state) ⌝ }
     ensures { λ _. ⌜ length (now (state .exit)) ≡ stateSize ⌝ }
-    ensures { λ _. ⌜ WalkedBelow (setting (now (words .entry)) (now (bytes .entry)) blocks) (now (state .entry), now (kept .entry)) (blocks - left) left place (now (state .exit), now (kept .exit)) ⌝ }
+    ensures { λ _. ⌜ WalkedBelow
+        (setting (now (words .entry)) (now (bytes .entry)) blocks)
+        (now (state .entry), now (kept .entry)) (blocks - left) left place (now (state .exit), now (kept .exit)) ⌝ }
 {
     let at = blocks - left;
     let lo = wide(bytes[STARTS + at]);
@@ -116,7 +118,9 @@ fn turn(
     requires { ⌜ (0 < left) × (c < 8) × Room (left - 1) (now state) ⌝ }
     requires { ⌜ (lo ≡ start (tables (now words) (now bytes)) (blocks - left)) × (hi ≡ start (tables (now words) (now bytes)) (blocks - left + 1)) ⌝ }
     ensures { λ _. ⌜ length (now (state .exit)) ≡ stateSize ⌝ }
-    ensures { λ _. ⌜ Turned (setting (now (words .entry)) (now (bytes .entry)) blocks) (now (state .entry), now (kept .entry)) (blocks - left) (left - 1) place c (now (state .exit), now (kept .exit)) ⌝ }
+    ensures { λ _. ⌜ Turned
+        (setting (now (words .entry)) (now (bytes .entry)) blocks)
+        (now (state .entry), now (kept .entry)) (blocks - left) (left - 1) place c (now (state .exit), now (kept .exit)) ⌝ }
 {
     let more = step(words, bytes, blocks - left, weight, place, c, lo, hi);
     let next = place * 8 + c;

@@ -83,7 +83,8 @@ fn list_fitting(
     requires { ⌜ (needed (describes (now w)) ≤ length (now rows)) × (keysNeeded (describes (now w)) ≤ length (now scratch)) ⌝ }
     ensures { λ r. ⌜ (r .rows ≡ length (rowsOf (describes (now (w .entry))))) × (r .blocks ≡ length (describes (now (w .entry)) .blocks)) ⌝ }
     ensures { λ _. ⌜ now (rows .exit) ≡ listed (describes (now (w .entry))) ++ drop (needed (describes (now (w .entry)))) (now (rows .entry)) ⌝ }
-    ensures { λ _. ⌜ now (scratch .exit) ≡ replicate (keysNeeded (describes (now (w .entry)))) 0 ++ drop (keysNeeded (describes (now (w .entry)))) (now (scratch .entry)) ⌝ }
+    ensures { λ _. ⌜ now (scratch .exit)
+        ≡ replicate (keysNeeded (describes (now (w .entry)))) 0 ++ drop (keysNeeded (describes (now (w .entry)))) (now (scratch .entry)) ⌝ }
 {
     let count = survey::keep_rows(w, masks, candidates, scratch);
     sorting::sort_rows(scratch, rows, count);
@@ -104,8 +105,12 @@ fn list_accepted(
     requires { ⌜ Admitted (describes (now w)) ⌝ }
     requires { ⌜ (candidates ≡ count (describes (now w))) × (now masks ≡ masksOf (describes (now w))) ⌝ }
     ensures { λ r. ⌜ listAnswer r ≡ listedIn (describes (now (w .entry))) (capacity (length (now (rows .entry))) (length (now (scratch .entry)))) ⌝ }
-    ensures { λ _. ⌜ now (rows .exit) ≡ replaced (ok (describes (now (w .entry)))) (capacity (length (now (rows .entry))) (length (now (scratch .entry)))) listed (now (rows .entry)) ⌝ }
-    ensures { λ _. ⌜ now (scratch .exit) ≡ replaced (ok (describes (now (w .entry)))) (capacity (length (now (rows .entry))) (length (now (scratch .entry)))) cleared (now (scratch .entry)) ⌝ }
+    ensures { λ _. ⌜ now (rows .exit)
+        ≡ replaced (ok (describes (now (w .entry))))
+        (capacity (length (now (rows .entry))) (length (now (scratch .entry)))) listed (now (rows .entry)) ⌝ }
+    ensures { λ _. ⌜ now (scratch .exit)
+        ≡ replaced (ok (describes (now (w .entry))))
+        (capacity (length (now (rows .entry))) (length (now (scratch .entry)))) cleared (now (scratch .entry)) ⌝ }
 {
     let lacking = missing(w, masks, candidates, capacity(rows, scratch));
     if lacking != 0 {
@@ -121,8 +126,11 @@ fn list_accepted(
 // or the rows do not fit.
 pub fn list(description: &[u8], rows: &mut [u64], scratch: &mut [u64]) -> Listed
     ensures { λ r. ⌜ listAnswer r ≡ listCall (now (description .entry)) (capacity (length (now (rows .entry))) (length (now (scratch .entry)))) ⌝ }
-    ensures { λ _. ⌜ now (rows .exit) ≡ rowsAfter (now (description .entry)) (capacity (length (now (rows .entry))) (length (now (scratch .entry)))) (now (rows .entry)) ⌝ }
-    ensures { λ _. ⌜ now (scratch .exit) ≡ scratchAfter (now (description .entry)) (capacity (length (now (rows .entry))) (length (now (scratch .entry)))) (now (scratch .entry)) ⌝ }
+    ensures { λ _. ⌜ now (rows .exit)
+        ≡ rowsAfter (now (description .entry)) (capacity (length (now (rows .entry))) (length (now (scratch .entry)))) (now (rows .entry)) ⌝ }
+    ensures { λ _. ⌜ now (scratch .exit)
+        ≡ scratchAfter (now (description .entry))
+        (capacity (length (now (rows .entry))) (length (now (scratch .entry)))) (now (scratch .entry)) ⌝ }
 {
     let mut w = [0u32; WORDS];
     let mut masks = [0u8; POSITIONS];
