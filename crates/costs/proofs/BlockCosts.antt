@@ -1,4 +1,4 @@
--- What a block costs goes by its kind: a service stores nothing, and a datum computes nothing.
+-- What a block costs depends on its kind: a service stores nothing, and a datum computes nothing.
 use native.Mathlib.Nat.{mul-zero}
 use mathlib.Core.Path.{_≡_}
 use mathlib.Core.Bool.{true, false, true≢false, false≢true}

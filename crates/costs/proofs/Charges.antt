@@ -1,5 +1,5 @@
--- What blocks and edges add to a weight: what is not declared is charged nothing, a datum is charged its storage, and what one block or one
--- edge adds is small where a description's numbers are in their ranges.
+-- What blocks and edges add to a weight: undeclared ones are charged nothing, a datum is charged its storage, and what one block or one
+-- edge adds is small if the description's numbers are in their ranges.
 use Prim.Native.Nat.{ℕ, _+_, _*_, _≤_, _<_, zero-le}
 use native.Mathlib.Nat.{mul-le-mul, add-le-add, zero-mul, mul-zero, add-zero}
 use native.Mathlib.Omega.{arith}

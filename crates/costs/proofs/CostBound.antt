@@ -1,4 +1,4 @@
--- A cost and each amount of its bill are below 2^53, whatever the placement, where the description keeps the format's limits and ranges.
+-- A cost and each amount of its bill are below 2^53, whatever the placement, if the description keeps the format's limits and ranges.
 use Prim.Native.Nat.{ℕ, _*_, _≤_, _<_, zero-le}
 use native.Mathlib.Nat.{mul-le-mul}
 use native.Mathlib.Omega.{arith}
@@ -26,7 +26,7 @@ use Rattle.security.proofs.Accepted.{read-bounded}
 
 -- ---- one term
 
--- the most that storing a datum, a service's computing, one transfer and one copy cost
+-- the most that storing a datum, a service's computing, one transfer and one copy can cost
 abbrev pub mostStorage : ℕ
 mostStorage = 65535 * (6554 * 65535)
 
@@ -47,7 +47,7 @@ times m n = mul-le-mul
 pub gigabytes-most : (size : ℕ) → size < 65536 → gigabytes size ≤ 6554
 gigabytes-most size h = omega (arith, charge-nearest size .within)
 
--- gigabytes charged, of a block of any kind
+-- gigabytes charged, for a block of any kind
 pub charged-most : (k : Kind) → kindFits k → chargedOf k ≤ 6554
 charged-most (Datum size longevity) h = gigabytes-most size (h .0)
 charged-most (Service clearance units) h = zero-le
@@ -80,7 +80,7 @@ transfer-most d h t =
 
 -- ---- sums: of the blocks, and of the transfers
 
--- what the first n blocks come to on their clouds: all of them is `ofBlocks`
+-- the sum for the first n blocks on their clouds; for all of them it is `ofBlocks`
 abbrev upTo : ℕ → (Cloud → Kind → ℕ) → Description → List ℕ → ℕ
 upTo n amount d p = sum (map (λ b. amount (cloud d (getD p b 0)) (block d b .kind)) (below n))
 
@@ -93,7 +93,7 @@ module _ (d : Description) (p : List ℕ) (h : Bounded d) where
       (λ b. most (cloud d (getD p b 0)) (h .inRange .rates (getD p b 0)) (block d b .kind) (h .inRange .kinds b))
       16 (below n) (simp length-from l)
 
-  -- what is at most m for any transfer
+  -- an amount that is at most m for any transfer
   transfers-most : (amount : Transfer → ℕ) (m : ℕ) → ((t : Transfer) → amount t ≤ m) → sum (map amount (transfers d p)) ≤ 32 * m
   transfers-most amount m most = sum-most-of amount m most 32 (transfers d p) (omega (arith, transfers-few d p, h .limits .edges))
 
@@ -111,12 +111,12 @@ module _ (d : Description) (p : List ℕ) (h : Bounded d) where
   copy-sum = transfers-most (copyCost d) mostCopy (λ t.
       copy-most (cloud d _) (h .inRange .rates _) (block d (t .datum) .kind) (h .inRange .kinds (t .datum)))
 
--- the most that the four sums come to together is below 2^53
+-- the most that the four sums can be together is below 2^53
 pub bounded-cost : (d : Description) (p : List ℕ) → Bounded d → cost d p < costLimit
 unfolding cost
 bounded-cost d p h = omega (arith, storage-sum d p h, cpu-sum d p h, transfer-sum d p h, copy-sum d p h)
 
--- so is every cost on an accepted description, of any list of numbers for a placement
+-- so is every cost on an accepted description, for any list of numbers as a placement
 pub cost-below : (s p : List ℕ) (d : Description) → Bytes s → read s ≡ ok d → cost d p < costLimit
 cost-below s p d b r = bounded-cost d p (read-bounded s d r b)
 

@@ -1,5 +1,5 @@
--- What the transfer of an edge and its copy cost goes by its way and by the clouds of its service and its datum, and by nothing else of the placement.
--- What a placement costs is the storage of its data, the transfers of its edges with their copies, and its computing.
+-- What the transfer of an edge and its copy cost depends on its way and on the clouds of its service and its datum, and on nothing else of
+-- the placement. A placement costs the storage of its data, the transfers of its edges with their copies, and its computing.
 use Prim.Native.Nat.{ℕ, _+_, _*_}
 use native.Mathlib.Omega.{arith}
 use mathlib.Core.Path.{_≡_, refl, sym, ap, _∙_}
@@ -18,7 +18,7 @@ use Rattle.costs.proofs.Transferring.{transfers-by-edge}
 use Rattle.sequences.specs.Lists.{sum}
 
 module _ (d : Description) (p : List ℕ) where
-  -- nothing where the two stand on one cloud; otherwise what the source charges for sending, the destination for taking, and the service's
+  -- nothing if the two stand on one cloud; otherwise what the source charges for sending, the destination for taking, and the service's
   -- cloud for the copy
   pub edge-cost : (e : Edge) → edgeCost d p e ≡ edgeCharge d e (serviceCloud p e) (datumCloud p e)
   unfolding edgeCost

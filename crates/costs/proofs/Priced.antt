@@ -1,4 +1,4 @@
--- What is worked out from the rates and quantities that are written down: the amounts of blocks on clouds, their sum, and that of the copies.
+-- What is computed from the stored rates and quantities: the amounts of blocks on clouds, their sum, and that of the copies.
 use Prim.Native.Nat.{ℕ, _+_, _*_, _/_, _%_, _≤_, _<_}
 use native.Mathlib.Nat.{mul-zero}
 use native.Mathlib.Omega.{arith}
@@ -31,7 +31,7 @@ use Rattle.costs.proofs.Transferring.{copies-by-edge}
 
 -- ---- entries
 
--- what is not declared has no rates and no quantities
+-- undeclared clouds have no rates, and undeclared blocks no quantities
 pub no-rate : (d : Description) (charge : Charge) (k : ℕ) → length (d .clouds) ≤ k → rateOf charge (cloud d k) ≡ 0
 no-rate d charge k h = ap (rateOf charge) (List·getD-eq-default (d .clouds) noCloud {n = k} h) ∙ none charge
   where
@@ -48,7 +48,7 @@ no-quantity d charge b h = ap (λ (x : Block). quantityOf charge (x .kind)) (Lis
     none Copy = omega (arith, charge-nearest 0 .within)
     none Cpu = refl
 
--- a charge stands in its column
+-- a charge has its column
 column-low : (charge : Charge) → columnOf charge < 3
 column-low Storage = omega arith
 column-low Copy = omega arith
@@ -63,7 +63,7 @@ charge-in Cpu = refl
 row-of : (n c : ℕ) → c < 3 → ((3 * n + c) / 3 ≡ n) × ((3 * n + c) % 3 ≡ c)
 row-of n c h = (omega arith, omega arith)
 
--- a row of three more, in an array whose entry i is that of row i / 3 and column i % 3
+-- three more entries, a row, in an array whose entry i belongs to row i / 3 and column i % 3
 module _ (f : (column row : ℕ) → ℕ) where
   abbrev pub byRow : ℕ → ℕ
   byRow i = f (i % 3) (i / 3)

@@ -1,4 +1,4 @@
--- The gigabytes charged are those that the rule asks for: nearest to a tenth of the size, and at the half even.
+-- The gigabytes charged are what the rule asks for: nearest to a tenth of the size, and at the half even.
 use Prim.Native.Nat.{ℕ, _+_, _*_, _/_, _%_, _≤_, _<_}
 use native.Mathlib.Omega.{arith}
 use native.Mathlib.Decide.{decLt}
@@ -8,7 +8,7 @@ use Rattle.costs.specs.Cost.{gigabytes, difference, Nearest}
 
 -- ---- the charge is as the rule asks
 
--- what is 5 away from tens ends in 5
+-- a size that differs from a multiple of 10 by 5 ends in 5
 at-half : (size g : ℕ) → difference (10 * g) size ≡ 5 → size % 10 ≡ 5
 at-half size g e = omega arith
 
@@ -37,7 +37,7 @@ charge-nearest size = record {
 even-apart : (n : ℕ) → n % 2 ≡ 0 → (n + 1) % 2 ≡ 0 → ⊥
 even-apart n e f = omega arith
 
--- of two different ones both would be 5 away, one on either side, and so both even
+-- two different numbers would both be 5 away, one on either side, and so both even
 not-below : (size g h : ℕ) → Nearest size g → Nearest size h → g < h → ⊥
 not-below size g h m n l =
     let low = m .within in
@@ -56,11 +56,11 @@ nearest-one size g h m n = go (decLt g h) (decLt h g)
 pub charge-alone : (size g : ℕ) → Nearest size g → g ≡ gigabytes size
 charge-alone size g n = nearest-one size g (gigabytes size) n (charge-nearest size)
 
--- nearest as the word is meant: no number is nearer
+-- nearest in the usual sense: no number is nearer
 pub none-nearer : (size h : ℕ) → difference (10 * gigabytes size) size ≤ difference (10 * h) size
 none-nearer size h = let w = charge-within size in omega arith
 
--- ---- the request's own sizes
+-- ---- sizes around a half
 
 pub sizes-charged : map gigabytes (4 ∷ 5 ∷ 6 ∷ 15 ∷ 25 ∷ 35 ∷ []) ≡ 0 ∷ 0 ∷ 1 ∷ 2 ∷ 2 ∷ 4 ∷ []
 unfolding gigabytes

@@ -1,4 +1,4 @@
--- What transfers and their copies cost is summed edge by edge.
+-- The cost of transfers and of their copies, summed edge by edge.
 use mathlib.Core.Path.{_≡_, refl, sym, _∙_}
 use mathlib.Core.Bool.{cond}
 use mathlib.Core.List.{List, map}

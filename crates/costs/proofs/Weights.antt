@@ -1,4 +1,4 @@
--- The weight of a placement tells its cost and what it breaks, and fits 64 bits.
+-- The weight of a placement gives its cost and what it breaks, and fits in 64 bits.
 use Prim.Native.Nat.{ℕ, _+_, _*_, _^_, _≤_, _<_}
 use native.Mathlib.Omega.{arith}
 use mathlib.Core.Path.{_≡_, refl, sym, ap₂}
@@ -23,14 +23,14 @@ use Rattle.costs.proofs.CostBound.{bounded-cost}
 use Rattle.costs.proofs.EdgeCosts.{edge-cost, cost-by-edges}
 
 module _ (d : Description) (p : List ℕ) where
-  -- how many edges break rule 16, rule 17
+  -- how many edges break rule 16, and rule 17
   abbrev pub number16 : ℕ
   number16 = length (keep (breaks16 d p) (d .edges))
 
   abbrev pub number17 : ℕ
   number17 = length (keep (breaks17 d p) (d .edges))
 
-  -- ---- an edge's term, where the placement puts its blocks: its cost, and what it breaks
+  -- ---- an edge's term on the clouds of the placement: its cost, and what it breaks
 
   penalty-is : (e : Edge)
       → cond (edgeExposes d e (serviceCloud p e) (datumCloud p e)) (penalty (e .way)) 0 ≡
@@ -61,7 +61,7 @@ module _ (d : Description) (p : List ℕ) where
       let w = sum-passing secondPenalty (breaks17 d p) (d .edges) in
       omega arith
 
-  -- The weight is the cost, with 2^53 for each edge that breaks rule 16 and 33 times that for each that breaks rule 17.
+  -- The weight is the cost, plus 2^53 for each edge that breaks rule 16 and 33 times that for each that breaks rule 17.
   pub weight-is : weightOf d p ≡ cost d p + costLimit * (number16 + radix * number17)
   unfolding weightOf blockTerm
   weight-is =
@@ -70,7 +70,7 @@ module _ (d : Description) (p : List ℕ) where
       let c = cost-by-edges d p in
       omega arith
 
-  -- ---- where the description keeps the format's limits and ranges
+  -- ---- if the description keeps the format's limits and ranges
 
   module _ (h : Bounded d) where
     at-most : (cost d p < costLimit) × (number16 ≤ 32) × (number17 ≤ 32)
@@ -78,11 +78,11 @@ module _ (d : Description) (p : List ℕ) where
         let l = h .limits .edges in
         (bounded-cost d p h, omega (arith, kept-most (breaks16 d p) (d .edges)), omega (arith, kept-most (breaks17 d p) (d .edges)))
 
-    -- the weight fits 64 bits
+    -- the weight fits in 64 bits
     pub weight-small : weightOf d p < 2 ^ 64
     weight-small = omega (arith, weight-is, at-most)
 
-    -- THE CLASS of its weight is the placement's: the two kinds of broken edges are the weight's digits to the base of `radix`
+    -- THE CLASS of its weight is the placement's: the numbers of the two kinds of broken edges are the weight's digits to the base `radix`
     pub weight-class : classOf (weightOf d p) ≡ classIn d p
     unfolding classIn
     weight-class = go (broken16 d p) (broken17 d p) refl refl
@@ -98,7 +98,7 @@ module _ (d : Description) (p : List ℕ) where
         go false false e f =
             class-light (weightOf d p) (omega (arith, weight-is, at-most, none-kept (breaks16 d p) (d .edges) e, none-kept (breaks17 d p) (d .edges) f))
 
-    -- where it keeps both rules its weight is its cost
+    -- if it keeps both rules, its weight is its cost
     pub weight-cost : unexposed d p ≡ true → weightOf d p ≡ cost d p
     weight-cost s =
         let (keeps16, keeps17) = both-pass (not (broken16 d p)) (not (broken17 d p)) .0 s in

@@ -1,5 +1,5 @@
--- What a placement costs: three amounts, for storage (the data and the copies of them), transfers and computing, which are its bill, and
--- their sum.
+-- What a placement costs: three amounts, for storage (of the data and of their copies), transfers and computing. They are its bill, and
+-- their sum is its cost.
 use Prim.Native.Nat.{ℕ, _+_, _-_, _*_, _/_, _%_, _≤_, _<_}
 use mathlib.Core.Path.{_≡_}
 use mathlib.Core.Bool.{cond}
@@ -16,8 +16,8 @@ use Rattle.transfer_list.specs.Transfers.{Transfer, transferOf, transfers}
 use Rattle.sequences.specs.Lists.{below, sum}
 use Rattle.weights.specs.Weights.{costLimit}
 
--- gigabytes charged: the size, in tenths, over 10, rounded to the nearest whole number, an exact half to the even neighbour. The 4 carries
--- every size above the half; where the number below is odd, one more carries the half itself
+-- Gigabytes charged: the size, in tenths, over 10, rounded to the nearest whole number, an exact half to the even neighbour. Adding 4
+-- carries every size above the half; if the whole part is odd, one more carries the half itself.
 unfoldable pub gigabytes : ℕ → ℕ
 gigabytes size = (size + 4 + size / 10 % 2) / 10
 
@@ -31,7 +31,7 @@ pub record Nearest (size g : ℕ) : Type 0 where
   pub within : difference (10 * g) size ≤ 5
   pub half : difference (10 * g) size ≡ 5 → g % 2 ≡ 0
 
--- what of a block the rates are multiplied by: its gigabytes, these for each month of its longevity, the units of its computing
+-- the quantities of a block that rates are multiplied by: its gigabytes, the same for each month of its longevity, its units of computing
 abbrev pub chargedOf : Kind → ℕ
 chargedOf (Datum size longevity) = gigabytes size
 chargedOf (Service clearance units) = 0
@@ -63,7 +63,7 @@ transferCost d t = (cloud d (t .source) .outward + cloud d (t .destination) .inw
 abbrev pub copyCost : Description → Transfer → ℕ
 copyCost d t = copyOf (cloud d (t .copy)) (block d (t .datum) .kind)
 
--- what the transfer on an edge costs with its copy, 0 where there is none; the edge's number has no part in it
+-- what the transfer on an edge costs with its copy, 0 if there is none; the edge's number does not matter
 unfoldable pub edgeCost : Description → List ℕ → Edge → ℕ
 edgeCost d p e = cond (moves p e) (transferCost d (transferOf 0 p e) + copyCost d (transferOf 0 p e)) 0
 
@@ -74,7 +74,7 @@ ofBlock amount d p b = amount (cloud d (getD p b 0)) (block d b .kind)
 abbrev pub ofBlocks : (Cloud → Kind → ℕ) → Description → List ℕ → ℕ
 ofBlocks amount d p = sum (map (ofBlock amount d p) (below (length (d .blocks))))
 
--- the three amounts: what is paid for storing the data and the copies, for the transfers, for the services' computing
+-- the three amounts: for storing the data and the copies, for the transfers, for the services' computing
 abbrev pub storageAmount : Description → List ℕ → ℕ
 storageAmount d p = ofBlocks storageOf d p + sum (map (copyCost d) (transfers d p))
 

@@ -16,7 +16,7 @@ use Rattle.costs.specs.Cost.{chargedOf, monthsOf, unitsOf}
 use Rattle.sequences.specs.Arrays.{table}
 use Rattle.sequences.specs.Lists.{below, sum}
 
--- a charge's rate of a cloud, and its quantity of a block
+-- the rate of a cloud for a charge, and the quantity of a block for it
 abbrev pub rateOf : Charge → Cloud → ℕ
 rateOf Storage c = c .storage
 rateOf Copy c = c .storage
@@ -27,7 +27,7 @@ quantityOf Storage k = monthsOf k
 quantityOf Copy k = chargedOf k
 quantityOf Cpu k = unitsOf k
 
--- the most that one comes to: a rate has two bytes and a quantity four
+-- the highest possible amount: a rate has two bytes and a quantity four
 abbrev pub mostAmount : ℕ
 mostAmount = 65535 * 4294967295
 
@@ -58,6 +58,6 @@ module _ (rates quantities : List ℕ) where
   abbrev pub blocksBy : Charge → (n : ℕ) → List ℕ → ℕ
   blocksBy charge n p = sum (map (λ b. amountBy charge (getD p b 0) b) (below n))
 
-  -- the copy of an edge's datum on its service's cloud; 0 where both stand together
+  -- the copy of an edge's datum on its service's cloud; 0 if both stand on one cloud
   abbrev pub copyBy : List ℕ → Edge → ℕ
   copyBy p e = cond (eqb (serviceCloud p e) (datumCloud p e)) 0 (amountBy Copy (serviceCloud p e) (e .datum))

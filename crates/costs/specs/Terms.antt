@@ -1,5 +1,5 @@
--- A placement's cost and what it breaks in one number, as a sum of one term for each block and one for each edge, each of which
--- depends on where its own blocks stand: what a walk over placements carries along.
+-- A placement's cost and what it breaks in one number, as a sum of one term for each block and one for each edge. Each term depends only on
+-- where its own blocks stand, so a walk over placements can add them up on the way.
 use Prim.Native.Nat.{ℕ, _+_, _*_}
 use mathlib.Core.Bool.{Bool, not, _&&_, cond}
 use mathlib.Core.List.{List, map}
@@ -21,7 +21,7 @@ use Rattle.sequences.specs.Lists.{below, sum}
 unfoldable pub blockTerm : Description → (b k : ℕ) → ℕ
 blockTerm d b k = storageOf (cloud d k) (block d b .kind) + cpuOf (cloud d k) (block d b .kind)
 
--- what the transfer of an edge and its copy are charged where its service stands on x and its datum on y; 0 where it makes none
+-- what the transfer of an edge and its copy are charged if its service stands on x and its datum on y; 0 if it makes none
 abbrev pub edgeCharge : Description → Edge → (x y : ℕ) → ℕ
 edgeCharge d e x y =
     cond (eqb x y) 0
@@ -32,15 +32,15 @@ edgeCharge d e x y =
 abbrev pub edgeExposes : Description → Edge → (x y : ℕ) → Bool
 edgeExposes d e x y = not (eqb x y) && not (covers (cloudLabel d x) (blockLabel d (e .datum)))
 
--- what an edge adds where it exposes its copy: rule 16, of a read, is looked for before rule 17, of a write
+-- what an edge adds if it exposes its copy: rule 16, for reads, is looked for before rule 17, for writes
 abbrev pub penalty : Way → ℕ
 penalty way = cond (isWrite way) secondPenalty firstPenalty
 
--- the charge, with the penalty of what it breaks
+-- the charge, with the penalty for what it breaks
 unfoldable pub edgeTerm : Description → Edge → (x y : ℕ) → ℕ
 edgeTerm d e x y = edgeCharge d e x y + cond (edgeExposes d e x y) (penalty (e .way)) 0
 
--- what each end of an edge adds by its own cloud, where the two stand apart: the service's with the copy and the penalty, and the datum's
+-- what each end of an edge adds by its own cloud, if the two stand apart: the service's end with the copy and the penalty, and the datum's
 unfoldable pub serviceSide : Way → Cloud → Block → ℕ
 serviceSide way c datum =
     (cond (isWrite way) (c .outward) (c .inward) + c .storage) * chargedOf (datum .kind) + cond (covers (c .label) (datum .label)) 0 (penalty way)
@@ -54,6 +54,6 @@ weightOf d p =
     sum (map (λ b. blockTerm d b (getD p b 0)) (below (length (d .blocks)))) +
     sum (map (λ e. edgeTerm d e (serviceCloud p e) (datumCloud p e)) (d .edges))
 
--- The class of a placement, by its edges: 0 where it keeps rules 16 and 17, 1 where it breaks rule 16, 2 where it breaks rule 17 alone.
+-- The class of a placement, by its edges: 0 if it keeps rules 16 and 17, 1 if it breaks rule 16, 2 if it breaks rule 17 alone.
 unfoldable pub classIn : Description → List ℕ → ℕ
 classIn d p = cond (broken16 d p) 1 (cond (broken17 d p) 2 0)

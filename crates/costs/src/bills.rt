@@ -1,5 +1,5 @@
-// The bills of placements. An amount is a rate of a cloud times a quantity of a block: both are written down once, in two lent arrays, for as
-// many bills as are wanted of them.
+// The bills of placements. An amount is a rate of a cloud times a quantity of a block: both are written down once, in two lent arrays, for
+// any number of bills.
 ghost use mathlib.Core.Path.{_≡_};
 ghost use mathlib.Core.List.{map};
 ghost use Prim.Native.Nat.{_≤_, _<_, _*_};
@@ -37,10 +37,10 @@ pub type Rates = [u16; RATES];
 
 pub type Quantities = [u32; QUANTITIES];
 
-// The clouds of the blocks. It is lent: by value it would be copied for every edge.
+// The clouds of the blocks. It is lent: passed by value, it would be copied for every edge.
 pub type Placement = [u8; 16];
 
-// Where a charge stands in a row.
+// The place of a charge in a row.
 fn column_of(charge: Charge) -> usize
     ensures { λ r. ⌜ r ≡ columnOf charge ⌝ }
     ensures { λ r. ⌜ r < 3 ⌝ }
@@ -106,7 +106,7 @@ fn amount_at(rates: &Rates, quantities: &Quantities, charge: Charge, k: usize, b
     )
 }
 
-// One charge on the first n blocks, where they stand.
+// One charge for the first n blocks, on their clouds.
 fn blocks_cost(
     charge: Charge,
     rates: &Rates,
@@ -127,7 +127,7 @@ fn blocks_cost(
     total
 }
 
-// What the copy on an edge is charged. It is worked out even if there is none: a jump over that would be guessed wrong every other time.
+// What the copy on an edge is charged. It is worked out even if there is none: a branch around it would be guessed wrong every other time.
 fn copy_cost(rates: &Rates, quantities: &Quantities, placement: &Placement, e: Edge) -> u64
     requires { ⌜ (e .service < 16) × (e .datum < 16) × AllBelow 8 (now placement) ⌝ }
     ensures { λ r. ⌜ r ≡ copyBy (now (rates .entry)) (now (quantities .entry)) (now (placement .entry)) e ⌝ }
@@ -156,7 +156,7 @@ fn copies_cost(w: &Words, rates: &Rates, quantities: &Quantities, placement: &Pl
     total
 }
 
-// The bill of a placement whose cost is known, as that of every row is: what storage and computing leave of it is for the transfers.
+// The bill of a placement whose cost is known, as every row's is: what storage and computing leave of the cost is for the transfers.
 pub fn bill_by(
     w: &Words,
     rates: &Rates,

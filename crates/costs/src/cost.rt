@@ -5,7 +5,7 @@ ghost use Rattle.costs.specs.Cost.{gigabytes, chargedOf, monthsOf, units
 use description::workflow::Cloud;
 use description::workflow::Kind;
 
-// Gigabytes charged for a size in tenths: one more where the rest is above a half, or is the half after an odd number.
+// Gigabytes charged for a size in tenths: one more if the remainder is above a half, or is the half after an odd number.
 pub fn gigabytes(size: u16) -> u64
     ensures { λ r. ⌜ r ≡ gigabytes size ⌝ }
     ensures { λ r. ⌜ r ≤ 6554 ⌝ }

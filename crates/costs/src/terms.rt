@@ -1,4 +1,4 @@
-// What one block and one edge add to a placement's weight, from where their blocks stand.
+// What one block and one edge add to a placement's weight, by where their blocks stand.
 ghost use mathlib.Core.Path.{_≡_};
 ghost use mathlib.Core.Bool.{cond};
 ghost use Prim.Native.Nat.{_+_, _^_, _≤_, _<_};
@@ -68,7 +68,7 @@ fn service_rate(way: Way, cloud: Cloud) -> u64
     cloud.inward as u64 + cloud.storage as u64
 }
 
-// What an edge adds by the cloud of its service alone, where its datum stands on another.
+// What an edge adds by the cloud of its service alone, if its datum stands on another.
 pub fn service_side(way: Way, cloud: Cloud, datum: Block) -> u64
     ensures { λ r. ⌜ r ≡ serviceSide way cloud datum ⌝ }
     ensures { λ r. ⌜ r < termLimit ⌝ }

@@ -1,4 +1,4 @@
--- Which command bytes begin with, by their first.
+-- Which command is at the front of some bytes, by the first byte.
 use Prim.Native.Nat.{ℕ, _≤_, _<_}
 use native.Mathlib.Decide.{ℕ-discrete}
 use native.Mathlib.Omega.{arith}
@@ -39,6 +39,7 @@ module _ (s : List ℕ) (d : Description) where
     ne-eqb (u8At s 0) 7 g,
   )
 
-  -- that is refused with 2
-  pub refuses : {e : Description} {r : Step} → 0 < length s → r ≡ record { fault = Fault 2; width = 1 } → commandAt s d ≡ unknown d → Steps s (commandAt s d) e r
+  -- an unknown byte is refused with 2
+  pub refuses : {e : Description} {r : Step} → 0 < length s → r ≡ record { fault = Fault 2; width = 1 } → commandAt s d ≡ unknown d
+      → Steps s (commandAt s d) e r
   refuses some f e = rw e (stops s (unknown d) f refl (simp (le-ltb (length s) 1 some)))

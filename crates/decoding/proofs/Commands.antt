@@ -1,4 +1,4 @@
--- What is known of each command that is taken, and what it adds; so an invariant is shown command by command.
+-- What is known of each command that is taken, and what it adds; so an invariant can be shown command by command.
 use Prim.Native.Nat.{ℕ, _≤_, _<_}
 use native.Mathlib.Omega.{arith}
 use mathlib.Core.Path.{_≡_}
@@ -27,7 +27,7 @@ use Rattle.decoding.proofs.Turns.{each-command}
 -- ---- what is known of a command that is taken
 
 module _ (s : List ℕ) (d : Description) where
-  -- 01: there is room for the cloud, and its label is one
+  -- 01: there is room for the cloud, and its label is a label
   pub record CloudTaken : Type 0 where
     pub whole : 10 ≤ length s
     pub room : length (d .clouds) < 8
@@ -61,7 +61,7 @@ module _ (s : List ℕ) (d : Description) where
     pub cloud : u8At s 2 < length (d .clouds)
     pub free : isPinned (Format·block d (u8At s 1) .pin) ≡ false
 
-  -- 07: there is room for the pair, its names are those of two data, and no pair has the same
+  -- 07: there is room for the pair, its names are those of two data, and it repeats none
   pub record PairTaken : Type 0 where
     pub whole : 3 ≤ length s
     pub room : length (d .pairs) < 8
@@ -70,7 +70,7 @@ module _ (s : List ℕ) (d : Description) where
     pub two : eqb (u8At s 1) (u8At s 2) ≡ false
     pub fresh : any (samePair (pairIn s)) (d .pairs) ≡ false
 
--- ---- from the faults, none of which it has
+-- ---- from its faults: it has none
 
 -- every test of the list failed
 abbrev pub Faultless : List (ℕ × Bool) → Type 0
@@ -87,7 +87,7 @@ unrefused s c e = faultless ((1, ltb (length s) (c .width)) ∷ c .faults) e
 both : (a b : Bool) → not (a && b) ≡ false → (a ≡ true) × (b ≡ true)
 both a b e = both-pass a b .0 (not-false (a && b) e)
 
--- a command that isn't refused is taken: for each, what is known of it
+-- a command that is not refused is taken: what is known of each
 module _ (s : List ℕ) (d : Description) where
   pub cloud-taken : faultOf s (cloudAt s d) ≡ none → CloudTaken s d
   cloud-taken e = let f = unrefused s (cloudAt s d) e in omega (arith, ltb-false, leb-false)
@@ -166,7 +166,7 @@ module _ {B : List ℕ → Type 0} {P : Description → Type 0} (k : Keeps B P) 
       (λ e. k .pair s d b p (pair-taken s d e))
       (λ e. p)
 
--- ---- what holds of each cloud, and of each block whatever its pin
+-- ---- what holds of each cloud, and of each block, whatever its pin
 
 module _ (B : List ℕ → Type 0) (P : Cloud → Type 0) (new : (s : List ℕ) (d : Description) → B s → CloudTaken s d → P (cloudIn s)) where
   pub each-cloud : Keeps B (λ d. (k : ℕ) → P (Format·cloud d k))

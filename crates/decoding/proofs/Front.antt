@@ -1,5 +1,5 @@
--- THE FIRST BYTES DECIDE. Good commands fill at most 360 bytes, and no command has more than 10: whatever is read of a longer input, its
--- first bad command, or its 00 with a byte behind it, lies within them.
+-- THE FIRST BYTES DECIDE. Good commands fill at most 360 bytes, and no command has more than 10: in a longer input, the first bad command,
+-- or 00 with a byte after it, lies within these.
 use Prim.Native.Nat.{ℕ, zero, suc, pred, _+_, _-_, _*_, _≤_, _<_}
 use native.Mathlib.Decide.{decLe}
 use native.Mathlib.Omega.{arith}
@@ -42,14 +42,14 @@ pins-snoc [] b = go (isPinned (b .pin))
     go false = omega arith
 pins-snoc (x ∷ l) b = omega (arith, pins-snoc l b)
 
--- a block that had no pin has one
+-- a block that had no pin gets one
 pins-set : (l : List Block) (i k : ℕ) → i < length l → isPinned (getD l i noBlock .pin) ≡ false
     → pinsLeft (set l i (pinned (getD l i noBlock) k)) + 3 ≡ pinsLeft l
 pins-set [] i k h e = absurd (omega arith)
 pins-set (x ∷ l) zero k h e = rw e (omega arith)
 pins-set (x ∷ l) (suc i) k h e = let r = pins-set l i k (omega arith) e in omega arith
 
--- a command that is taken uses up as many bytes as it has
+-- a command that is taken uses up as much room as it has bytes
 spends : (s : List ℕ) (d : Description) → faultOf s (commandAt s d) ≡ none → left (commandAt s d .after) + commandAt s d .width ≤ left d
 spends s d =
     each-command (λ c. faultOf s c ≡ none → left (c .after) + c .width ≤ left d) s d
@@ -68,14 +68,14 @@ spends s d =
     edge : (w : Way) → faultOf s (edgeAt w s d) ≡ none → left (edgeAt w s d .after) + 3 ≤ left d
     edge w e = let t = edge-taken s d w e in omega (arith, t .room, length-append (d .edges) (edgeIn w s ∷ []))
 
--- behind 00 there is a byte in both
+-- there is a byte after 00 in both
 followed : (n : ℕ) (rest : List ℕ) (at : ℕ) (d : Description) → 0 < n → 0 < length rest
     → (ended (take n rest) at d ≡ refused 3 at) × (ended rest at d ≡ refused 3 at)
 followed zero rest at d h k = absurd (omega arith)
 followed (suc n) [] at d h k = absurd (omega arith)
 followed (suc n) (b ∷ rest) at d h k = (refl, refl)
 
--- two inputs are refused with one number at one place
+-- two inputs are refused with the same number at the same place
 abbrev Refused : Result Description → Result Description → Type 0
 Refused x y = (number : ℕ) × (place : ℕ) × (x ≡ refused number place) × (y ≡ refused number place)
 
@@ -83,7 +83,7 @@ Refused x y = (number : ℕ) × (place : ℕ) × (x ≡ refused number place) ×
 enough : (n width l m : ℕ) → 0 + l + 10 ≤ suc n → 0 < width → m + width ≤ l → pred width + m + 10 ≤ n
 enough n width l m h positive spent = omega arith
 
--- Where more bytes follow than the first n, and n are enough for the commands that there is room for and one more, the first n are refused
+-- If there are more bytes than the first n, and n are enough for the commands that there is room for and one more, the first n are refused
 -- as all are.
 front : (s : List ℕ) (n skip at : ℕ) (d : Description) → n < length s → skip + left d + 10 ≤ n
     → Refused (readFrom (take n s) skip at d) (readFrom s skip at d)
@@ -91,7 +91,7 @@ front [] n skip at d h k = absurd (omega arith)
 front (b ∷ rest) zero skip at d h k = absurd (omega arith)
 front (b ∷ rest) (suc n) (suc skip) at d h k = front rest n skip (suc at) d (omega arith) (omega arith)
 front (b ∷ rest) (suc n) zero at d h k =
-    one (eqb b 0) (faultOf long c) refl refl (λ e. front rest n (pred (c .width)) (suc at) (c .after) (omega arith) (enough n (c .width) (left d) (left (c .after)) k (width-positive long d) (spends long d e)))
+    one (eqb b 0) (faultOf long c) refl refl (λ e. front rest n (pred (c .width)) (suc at) (c .after) (omega arith) (room e))
   where
     long : List ℕ
     long = b ∷ rest
@@ -111,6 +111,10 @@ front (b ∷ rest) (suc n) zero at d h k =
     same : commandAt short d ≡ c
     same = sym (command-by long short d agree)
 
+    -- what is left is enough for the commands after this one
+    room : faultOf long c ≡ none → pred (c .width) + left (c .after) + 10 ≤ n
+    room e = enough n (c .width) (left d) (left (c .after)) k (width-positive long d) (spends long d e)
+
     unfaulted : faultOf short (commandAt short d) ≡ faultOf long c
     unfaulted = sym (fault-by long short d agree (omega (arith, few)) (omega (arith, few, length-take n rest)))
 
@@ -123,7 +127,8 @@ front (b ∷ rest) (suc n) zero at d h k =
     one false (some m) z q next = (m, at, fails b (take n rest) at d z (unfaulted ∙ q), fails b rest at d z q)
     one false none z q next =
         let (m, p, e, f) = next q in
-        (m, p, goes b (take n rest) at d z (unfaulted ∙ q) ∙ ap (λ x. readFrom (take n rest) (pred (x .width)) (suc at) (x .after)) same ∙ e, goes b rest at d z q ∙ f)
+        let sooner = ap (λ x. readFrom (take n rest) (pred (x .width)) (suc at) (x .after)) same in
+        (m, p, goes b (take n rest) at d z (unfaulted ∙ q) ∙ sooner ∙ e, goes b rest at d z q ∙ f)
 
 pub front-decides : (s : List ℕ) (n : ℕ) → decidingBytes ≤ n → decode (take n s) ≡ decode s
 unfolding decode

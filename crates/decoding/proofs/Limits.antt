@@ -68,7 +68,7 @@ rates = each-cloud Bytes RatesFit (λ s d h t. record { storage = u16-fits s h 2
 kinds : Keeps Bytes (λ d. (b : ℕ) → kindFits (block d b .kind))
 kinds = each-block Bytes (λ b. kindFits (b .kind)) (λ s d h t. (u16-fits s h 2, u16-fits s h 4)) (λ s d h t. u32-fits s h 3) (λ b k p. p)
 
--- of what is decoded from bytes, the numbers are in their ranges
+-- if the input is bytes, the numbers are in their ranges
 pub decoded-inRange : (s : List ℕ) (d : Description) → Bytes s → decode s ≡ ok d → InRange d
 decoded-inRange s d h r = record { rates = decoded-bytes rates (λ k. omega arith) s d h r; kinds = decoded-bytes kinds (λ b. omega arith) s d h r }
 
@@ -78,13 +78,17 @@ pin-more : (n m : ℕ) → n ≤ m → (p : Pin) → pinBelow n p → pinBelow m
 pin-more n m h Free q = tt
 pin-more n m h (To k) q = omega arith
 
-pins : Keeps Any (λ d. (b : ℕ) → pinBelow (length (d .clouds)) (block d b .pin))
+-- the pin of a block names a declared cloud
+abbrev Pinned : Description → Block → Type 0
+Pinned d x = pinBelow (length (d .clouds)) (x .pin)
+
+pins : Keeps Any (λ d. (b : ℕ) → Pinned d (block d b))
 pins = record {
   cloud = λ s d b p t i. pin-more (length (d .clouds)) _ (simp length-append (omega arith)) (block d i .pin) (p i);
-  datum = λ s d b p t. everywhere-snoc (λ (x : Block). pinBelow (length (d .clouds)) (x .pin)) noBlock (d .blocks) (datumIn s) p tt;
-  service = λ s d b p t. everywhere-snoc (λ (x : Block). pinBelow (length (d .clouds)) (x .pin)) noBlock (d .blocks) (serviceIn s) p tt;
+  datum = λ s d b p t. everywhere-snoc (Pinned d) noBlock (d .blocks) (datumIn s) p tt;
+  service = λ s d b p t. everywhere-snoc (Pinned d) noBlock (d .blocks) (serviceIn s) p tt;
   edge = λ w s d b p t. p;
-  pin = λ s d b p t. everywhere-set (λ (x : Block). pinBelow (length (d .clouds)) (x .pin)) noBlock (d .blocks) (u8At s 1) (pinned (block d (u8At s 1)) (u8At s 2)) p (t .cloud);
+  pin = λ s d b p t. everywhere-set (Pinned d) noBlock (d .blocks) (u8At s 1) (pinned (block d (u8At s 1)) (u8At s 2)) p (t .cloud);
   pair = λ s d b p t. p;
 }
 
@@ -111,7 +115,7 @@ extends-pin l j k = record {
     b : Block
     b = pinned (getD l j noBlock) k
 
--- edges and pairs name blocks of a kind: `right` tests whether a datum is meant
+-- edges and pairs name blocks of a kind: `right` says whether a datum is meant
 module _ (right : Bool → Bool) where
   abbrev Named : List Block → ℕ → Type 0
   Named l b = ltb b (length l) && right (isDatum (getD l b noBlock .kind)) ≡ true
@@ -123,7 +127,7 @@ module _ (right : Bool → Bool) where
       both-pass (ltb b (length m)) (right (isDatum (getD m b noBlock .kind))) .1
       (lt-ltb b (length m) (omega (arith, e .more)), rw (e .same b h) (q .1))
 
-  -- what stands on one side of each element of a list is named: so it stays with more blocks, and with one more element
+  -- if one side of each element of a list is named, it stays so with more blocks and with one more element
   module _ {A : Type 0} (side : A → ℕ) (z : A) where
     abbrev Each : List Block → List A → Type 0
     Each l xs = (n : ℕ) → n < length xs → Named l (side (getD xs n z))

@@ -1,4 +1,4 @@
--- How the code's outcome goes on as the result that it means does.
+-- The code's outcome continues as the result that it represents does.
 use mathlib.Core.Path.{_≡_, sym, ap, _∙_}
 use Rattle.sequences.specs.Results.{Result, refused, andThen}
 use Rattle.description.specs.declared.workflow.Refusal.{Refusal}
@@ -11,6 +11,6 @@ module _ {A B : Type 0} {o : Outcome} (a : A) {v : Result A} (means : outcomeOf 
   pub passes-on : (r : Refusal) → o ≡ Refused r → refused (r .number) (r .place) ≡ andThen v f
   passes-on r e = ap (λ t. andThen t f) (sym (ap (λ t. outcomeOf t a) e) ∙ means)
 
-  -- what is accepted goes on
+  -- after an acceptance it continues
   pub goes-on-with : o ≡ Accepted → f a ≡ andThen v f
   goes-on-with e = ap (λ t. andThen t f) (sym (ap (λ t. outcomeOf t a) e) ∙ means)

@@ -15,8 +15,8 @@ use Rattle.description.specs.declared.workflow.Edge.{Edge}
 use Rattle.description.specs.declared.workflow.Pair.{Pair}
 use Rattle.description.specs.declared.workflow.Way.{Way}
 use Rattle.description.specs.declared.workflow.Way.the-variants.{Reads, Writes}
-use Rattle.description.specs.Declarations.{Description, noEdge, noPair, block, edge, pair, isDatum, isPinned, isWrite, sameWay, sameEdge, writeOneDatum, namesDatum}
-use Rattle.description.specs.Declarations.{namesService}
+use Rattle.description.specs.Declarations.{Description, noEdge, noPair, block, edge, pair, isDatum, isPinned, isWrite}
+use Rattle.description.specs.Declarations.{sameWay, sameEdge, writeOneDatum, namesDatum, namesService}
 use Rattle.sequences.specs.Lists.{any}
 use Rattle.sequences.proofs.First.{first-none, none-found}
 use Rattle.sequences.proofs.Tests.{both-pass, not-passed, or-fails, or-passes}
@@ -54,7 +54,7 @@ no-pin (To k) = (λ e. absurd (true≢false e), λ e. ap isPinned e)
 
 -- ---- repetitions
 
--- no element passes exactly where what its failing says holds at every position
+-- no element passes exactly if what a failure says holds at every position
 module _ {A : Type 0} (t : A → Bool) (P : A → Type 0) (fails : (x : A) → (t x ≡ false) ↔ P x) (default : A) (l : List A) where
   none-passes : (any t l ≡ false) ↔ ((n : ℕ) → n < length l → P (getD l n default))
   none-passes = (
@@ -76,7 +76,7 @@ writes-is : (w : Way) → isWrite w ≡ true → w ≡ Writes
 writes-is Reads t = absurd (false≢true t)
 writes-is Writes t = refl
 
--- edges and pairs are equal where their parts are
+-- edges and pairs are equal if their parts are
 edge-is : (e f : Edge) → e .way ≡ f .way → e .service ≡ f .service → e .datum ≡ f .datum → e ≡ f
 edge-is e f p q r = λ i. record { way = p i; service = q i; datum = r i }
 
@@ -115,7 +115,7 @@ no-clash e f = (
   ]),
 )
 
--- x and y are the data of the pair b, in this order, exactly where b is the pair of x and y
+-- x and y are the data of the pair b, in this order, exactly if b is the pair of x and y
 named : (a b : Pair) → (namedBy b (a .left) (a .right) ≡ true) ↔ (b ≡ a)
 named a b = (
   λ t. let (x, y) = both-pass _ _ .0 t in sym (pair-is a b (eqb-true _ _ x) (eqb-true _ _ y)),
@@ -139,7 +139,7 @@ no-same-pair a b = (
       ]),
 )
 
--- the same of all edges and pairs that are declared
+-- the same for all declared edges and pairs
 module _ (d : Description) where
   pub no-clashes : (e : Edge) → (any (clash e) (d .edges) ≡ false) ↔ ((n : ℕ) → n < length (d .edges) → After e (edge d n))
   no-clashes e = none-passes (clash e) (After e) (no-clash e) noEdge (d .edges)

@@ -1,4 +1,4 @@
--- A command, and its fault, are what the bytes within its width say, whatever follows them.
+-- A command and its fault are determined by the bytes within its width, whatever follows them.
 use Prim.Native.Nat.{ℕ, _≤_, _<_}
 use native.Mathlib.Omega.{arith}
 use mathlib.Core.Path.{_≡_, refl, sym, ap, _∙_}
@@ -46,7 +46,7 @@ module _ (s t : List ℕ) where
     same-pair : Agree s t 3 → pairAt s d ≡ pairAt t d
     same-pair h = rw (h 1 (omega arith), h 2 (omega arith)) refl
 
-    -- a command is what the bytes within its width say
+    -- a command is determined by the bytes within its width
     pub command-by : Agree s t (commandAt s d .width) → commandAt s d ≡ commandAt t d
     command-by h =
         rw (← h 0 (width-positive s d))
@@ -61,7 +61,7 @@ module _ (s t : List ℕ) where
         is : ℕ → Bool
         is n = eqb (u8At s 0) n
 
-    -- and so is its fault, where both hold all of it
+    -- and so is its fault, if both inputs have all of it
     pub fault-by : Agree s t (commandAt s d .width) → commandAt s d .width ≤ length s → commandAt s d .width ≤ length t
         → faultOf s (commandAt s d) ≡ faultOf t (commandAt t d)
     fault-by a h k =

@@ -1,4 +1,4 @@
--- Induction over decoding: what holds of nothing, and is kept by every command that is taken, holds of every decoded description.
+-- Induction over decoding: what holds of the empty description and is kept by every taken command holds of every decoded description.
 use Prim.Native.Nat.{ℕ, zero, suc, pred, _<_}
 use native.Mathlib.Omega.{arith}
 use mathlib.Core.Path.{_≡_, refl, sym, _∙_, subst}
@@ -21,7 +21,7 @@ ended-same : (rest : List ℕ) (at : ℕ) (d e : Description) → ended rest at 
 ended-same [] at d e r = ok-inj r
 ended-same (b ∷ rest) at d e r = absurd (ok-not-refused (sym r))
 
--- decoding is reading, to something that has a cloud and a block
+-- decoding is reading, with a result that has a cloud and a block
 pub record Declared (s : List ℕ) (d : Description) : Type 0 where
   pub read : readFrom s 0 0 nothing ≡ ok d
   pub someCloud : 0 < length (d .clouds)
@@ -57,7 +57,7 @@ module _ (B : List ℕ → Type 0) (fewer : (b : ℕ) (s : List ℕ) → B (b �
       one false (some n) z q next = absurd (ok-not-refused (sym r ∙ fails b rest at d z q))
       one false none z q next = next q (sym (goes b rest at d z q) ∙ r)
 
-  -- B of the bytes and P of nothing: P of what they are decoded to
+  -- if B holds of the bytes and P of the empty description, P holds of what they are decoded to
   pub decoded-by : (s : List ℕ) (d : Description) → B s → P nothing → decode s ≡ ok d → P d
   decoded-by s d h p r = reading s 0 0 nothing d h p (declared s d r .read)
 

@@ -1,4 +1,4 @@
--- Decoding refuses with numbers 1 to 8, at an offset of the input, and so, since the first bytes decide, at `decidingBytes` at most.
+-- Decoding refuses with numbers 1 to 8, at an offset of the input; since the first bytes decide, it is at most `decidingBytes`.
 use Prim.Native.Nat.{ℕ, zero, suc, pred, _+_, _≤_, _<_}
 use native.Mathlib.Omega.{arith}
 use mathlib.Core.Path.{_≡_, refl, sym, subst}
@@ -30,7 +30,8 @@ fault-number (f ∷ fs) n h e = go (f .1) e (fault-number fs n (h .2))
 
 numbered : (s : List ℕ) (d : Description) → Numbered (commandAt s d .faults)
 numbered s d =
-    each-command (λ c. Numbered (c .faults)) s d four-five four-five four-five four-six-seven four-six-seven six-seven four-six-seven (omega arith, omega arith, tt)
+    each-command (λ c. Numbered (c .faults)) s d
+    four-five four-five four-five four-six-seven four-six-seven six-seven four-six-seven (omega arith, omega arith, tt)
   where
     four-five : (0 < 4) × (4 ≤ 8) × ((0 < 5) × (5 ≤ 8) × Unit {0})
     four-five = (omega arith, omega arith, (omega arith, omega arith, tt))
@@ -47,7 +48,8 @@ ended-within (b ∷ rest) at d = (omega arith, omega arith, omega arith)
 
 reading-within : (s : List ℕ) (skip at : ℕ) (d : Description) → RefusalWithin 8 (at + length s) (readFrom s skip at d)
 reading-within [] skip at d = (omega arith, omega arith, omega arith)
-reading-within (b ∷ rest) (suc skip) at d = within-more 8 (at + suc (length rest)) (omega arith) (omega arith) (readFrom rest skip (suc at) d) (reading-within rest skip (suc at) d)
+reading-within (b ∷ rest) (suc skip) at d =
+    within-more 8 (at + suc (length rest)) (omega arith) (omega arith) (readFrom rest skip (suc at) d) (reading-within rest skip (suc at) d)
 reading-within (b ∷ rest) zero at d = one (eqb b 0) (faultOf s c) refl refl (reading-within rest (pred (c .width)) (suc at) (c .after))
   where
     s : List ℕ
@@ -56,7 +58,8 @@ reading-within (b ∷ rest) zero at d = one (eqb b 0) (faultOf s c) refl refl (r
     c : Command
     c = commandAt s d
 
-    one : (z : Bool) (f : Option ℕ) → eqb b 0 ≡ z → faultOf s c ≡ f → RefusalWithin 8 (suc at + length rest) (readFrom rest (pred (c .width)) (suc at) (c .after))
+    one : (z : Bool) (f : Option ℕ) → eqb b 0 ≡ z → faultOf s c ≡ f
+        → RefusalWithin 8 (suc at + length rest) (readFrom rest (pred (c .width)) (suc at) (c .after))
         → RefusalWithin 8 (at + suc (length rest)) (readFrom s 0 at d)
     one true f z q next = subst (RefusalWithin 8 (at + suc (length rest))) (sym (ends b rest at d z)) (ended-within rest at d)
     one false (some n) z q next =
@@ -71,9 +74,11 @@ unfolding decode
 within-length s =
     within-andThen 8 (length s) (readFrom s 0 0 nothing) (inhabited (length s))
     (within-more 8 (length s) (omega arith) (omega arith) (readFrom s 0 0 nothing) (reading-within s 0 0 nothing))
-    (λ d e. within-cond 8 (length s) (eqb (length (d .clouds)) 0 || eqb (length (d .blocks)) 0) (refused 8 (length s)) (ok d) (λ _. (omega arith, omega arith, omega arith)) (λ _. tt))
+    (λ d e. within-cond 8 (length s) (eqb (length (d .clouds)) 0 || eqb (length (d .blocks)) 0) (refused 8 (length s)) (ok d)
+    (λ _. (omega arith, omega arith, omega arith)) (λ _. tt))
 
 pub decode-within : (s : List ℕ) → RefusalWithin 8 decidingBytes (decode s)
 decode-within s =
+    let front = take decidingBytes s in
     subst (RefusalWithin 8 decidingBytes) (front-decides s decidingBytes (omega arith))
-    (within-more 8 decidingBytes (omega arith) (omega (arith, length-take decidingBytes s)) (decode (take decidingBytes s)) (within-length (take decidingBytes s)))
+    (within-more 8 decidingBytes (omega arith) (omega (arith, length-take decidingBytes s)) (decode front) (within-length front))

@@ -1,4 +1,4 @@
--- What a step says of its command: it stops with a fault, or it goes on.
+-- What a step says of its command: it stops with a fault, or it continues.
 use mathlib.Core.Path.{_≡_, refl, sym, ap, _∙_}
 use Prim.Native.Nat.{ℕ}
 use mathlib.Core.Bool.{Bool, true, false, not, _&&_, _||_, cond}
@@ -29,8 +29,10 @@ module _ (s : List ℕ) (c : Command) {d : Description} {r : Step} where
     after = λ g. a;
   }
 
--- Edges of one datum clash where both write, and where both read and the service is the same; those of two data never do.
-pub clash-is : (e f : Edge) → clash e f ≡ (eqb (e .datum) (f .datum) && cond (isWrite (e .way)) (isWrite (f .way)) (not (isWrite (f .way)) && eqb (e .service) (f .service)))
+-- Two edges of one datum clash if both write, or if both read and the service is the same; edges of two data never clash.
+pub clash-is : (e f : Edge)
+    → clash e f ≡
+    (eqb (e .datum) (f .datum) && cond (isWrite (e .way)) (isWrite (f .way)) (not (isWrite (f .way)) && eqb (e .service) (f .service)))
 clash-is e f = go (e .way) (f .way) (eqb (e .service) (f .service)) (eqb (e .datum) (f .datum))
   where
     go : (x y : Way) (s d : Bool) → ((sameWay x y && s && d) || (isWrite x && isWrite y && d)) ≡ (d && cond (isWrite x) (isWrite y) (not (isWrite y) && s))

@@ -1,4 +1,4 @@
--- One turn of reading: what readFrom gives at a command that stands at an offset of the input.
+-- One turn of reading: what readFrom gives at a command at an offset of the input.
 use mathlib.Core.Path.{_≡_, sym, ap, _∙_}
 use Prim.Native.Nat.{ℕ, zero, suc, pred, _+_, _-_, _≤_, _<_}
 use native.Mathlib.Nat.{add-zero, add-suc, suc-add, not-suc-le-zero, le-of-suc-le-suc}
@@ -18,7 +18,7 @@ use Rattle.description.specs.Declarations.{Description}
 use Rattle.decoding.specs.Format.{u8At, Command, cloudAt, datumAt, serviceAt, edgeAt, pinAt, pairAt, unknown}
 use Rattle.decoding.specs.Format.{readFrom, ended, commandAt, firstFault, faultOf}
 
--- the bytes of a command that was read are stepped over at once
+-- the bytes of a command that was read are skipped at once
 skipped : (rest : List ℕ) (k at : ℕ) (d : Description) → k ≤ length rest → readFrom rest k at d ≡ readFrom (drop k rest) 0 (at + k) d
 skipped rest zero at d h = ap (λ n. readFrom rest 0 n d) (sym (add-zero at))
 skipped [] (suc k) at d h = absurd (not-suc-le-zero h)
@@ -38,14 +38,14 @@ each-command P s d cloud datum service read write pin pair other =
     either : (n : ℕ) {x y : Command} → P x → P y → P (cond (eqb (u8At s 0) n) x y)
     either n {x} {y} p q = cond-ind P (eqb (u8At s 0) n) x y (λ _. p) (λ _. q)
 
--- a command has a byte at least, and ten at most
+-- a command has at least one byte and at most ten
 pub width-positive : (s : List ℕ) (d : Description) → 1 ≤ commandAt s d .width
 width-positive s d = each-command (λ c. 1 ≤ c .width) s d (lit≤ tt) (lit≤ tt) (lit≤ tt) (lit≤ tt) (lit≤ tt) (lit≤ tt) (lit≤ tt) (lit≤ tt)
 
 pub width-few : (s : List ℕ) (d : Description) → commandAt s d .width ≤ 10
 width-few s d = each-command (λ c. c .width ≤ 10) s d (lit≤ tt) (lit≤ tt) (lit≤ tt) (lit≤ tt) (lit≤ tt) (lit≤ tt) (lit≤ tt) (lit≤ tt)
 
--- at a list with a head: the reader ends, refuses, or takes the command and goes on
+-- at a list with a head: reading ends, refuses, or takes the command and continues
 module _ (b : ℕ) (rest : List ℕ) (at : ℕ) (d : Description) where
   pub ends : eqb b 0 ≡ true → readFrom (b ∷ rest) 0 at d ≡ ended rest (suc at) d
   ends e = rw (e, readFrom)

@@ -1,5 +1,5 @@
 -- THE FORMAT, EXACTLY. Decoding accepts the bytes that are good commands one after the other and then 00, and no others, and gives what they
--- declare. A command is good exactly where it is read without a fault, whatever follows it; a list of them is read command by command.
+-- declare. A command is good exactly if it is read without a fault, whatever follows it; a list of them is read command by command.
 use Prim.Native.Nat.{ℕ, zero, suc, pred, _+_, _≤_, _<_}
 use native.Mathlib.Omega.{arith}
 use mathlib.Core.Path.{_≡_, refl, sym, ap, subst, _∙_}
@@ -33,7 +33,7 @@ use Rattle.decoding.proofs.Turns.{width-positive, whole, ends, fails, g
 abbrev Read : List ℕ → Description → Type 0
 Read c d = (length c ≡ commandAt c d .width) × (faultOf c (commandAt c d) ≡ none)
 
--- the bytes behind the first of a command are stepped over
+-- the bytes after the first byte of a command are skipped
 passes : (c rest : List ℕ) (at : ℕ) (d : Description) → readFrom (c ++ rest) (length c) at d ≡ readFrom rest 0 (at + length c) d
 passes [] rest at d = ap (λ n. readFrom rest 0 n d) (omega arith)
 passes (b ∷ c) rest at d = passes c rest (suc at) d ∙ ap (λ n. readFrom rest 0 n d) (omega arith)
@@ -45,7 +45,7 @@ not-end b c d e = ne-eqb b 0 (λ z. bad (rw z at e))
     bad : faultOf (0 ∷ c) (unknown d) ≡ none → ⊥
     bad q = Option·some-ne-none 2 (cond-none (ltb (length (0 ∷ c)) 1) 1 (some 2) q .1)
 
--- A good command, whatever follows it, is taken, and reading goes on behind it.
+-- A good command, whatever follows it, is taken, and reading continues after it.
 takes : (c rest : List ℕ) (at : ℕ) (d : Description) → Read c d
     → readFrom (c ++ rest) 0 at d ≡ readFrom rest 0 (at + length c) (commandAt c d .after)
 takes [] rest at d r = let p = width-positive [] d in absurd (omega (arith, r .0))
@@ -66,7 +66,7 @@ takes (b ∷ c) rest at d r =
     agree : Agree short long (commandAt short d .width)
     agree i h = sym (List·getD-append short rest 0 i (omega (arith, r .0)))
 
--- ---- a command is good exactly where it is read
+-- ---- a command is good exactly if it is read
 
 faultless-none : (fs : List (ℕ × Bool)) → Faultless fs → firstFault fs ≡ none
 faultless-none [] h = refl
@@ -219,7 +219,7 @@ listed-read (c ∷ cs) at d e (f, t, h) =
 abbrev Listed : List ℕ → (d e : Description) → Type 0
 Listed s d e = (cs : List (List ℕ)) × (s ≡ written cs) × Declares cs d e
 
--- what is read to its end is, from where the next command begins, good commands and then 00
+-- if it is read to its end, the input from the next command on is good commands and then 00
 read-listed : (s : List ℕ) (skip at : ℕ) (d e : Description) → readFrom s skip at d ≡ ok e → Listed (drop skip s) d e
 read-listed [] skip at d e h = absurd (ok-not-refused (sym h))
 read-listed (b ∷ rest) (suc skip) at d e h = read-listed rest skip (suc at) d e h
@@ -255,7 +255,7 @@ pos-of-ne h = omega arith
 
 -- ---- the two directions
 
--- the writer's: a list of good commands that has a cloud and a block, then 00, is accepted, and declares what the commands do
+-- for the writer: a list of good commands that has a cloud and a block, then 00, is accepted, and declares what the commands do
 pub listed-decodes : (cs : List (List ℕ)) (d : Description) → Describe cs d → decode (written cs) ≡ ok d
 unfolding decode
 listed-decodes cs d h =
@@ -265,7 +265,7 @@ listed-decodes cs d h =
     filled : {n : ℕ} → 0 < n → eqb n 0 ≡ false
     filled {n} p = ne-eqb n 0 (λ z. omega arith)
 
--- the reader's: what is accepted is such a list
+-- for the reader: whatever is accepted is such a list
 pub decodes-listed : (s : List ℕ) (d : Description) → decode s ≡ ok d → Meets s d
 unfolding decode
 decodes-listed s d h =

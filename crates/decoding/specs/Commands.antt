@@ -1,6 +1,6 @@
--- The format as a list of commands, in plain orders and equations. A command is its bytes: the first says which it is, and so how many there
--- are. Here stands what each command asks of what was declared before it, and what it declares; nothing here reads. Bytes meet the format
--- if they are such commands one after the other and then 00, and declare a cloud and a block at least.
+-- The format as a list of commands, in plain orders and equations. A command is its bytes: the first says which it is, and so how many
+-- there are. This file says what each command asks of what was declared before it, and what it declares; nothing here reads. Bytes meet
+-- the format if they are such commands one after the other and then 00, and declare at least a cloud and a block.
 use Prim.Native.Nat.{ℕ, _≤_, _<_}
 use mathlib.Core.Path.{_≡_}
 use mathlib.Core.List.{List, [], _∷_, _++_}
@@ -33,7 +33,7 @@ turned a = record { left = a .right; right = a .left }
 
 -- ---- names
 
--- block b is declared, and is a datum; a service
+-- block b is declared, and is a datum; is a service
 abbrev pub NamesDatum : Description → ℕ → Type 0
 NamesDatum d b = (b < length (d .blocks)) × ((size longevity : ℕ) × (Declarations·block d b .kind ≡ Datum size longevity))
 
@@ -53,13 +53,13 @@ module _ (c : List ℕ) (d : Description) where
     pub room : length (d .blocks) < 16
     pub label : u8At c 1 ≤ 63
 
-  -- 03: a service, the same, with location and clearance
+  -- 03: a service, the same, with a location and a clearance
   pub record ServiceGood : Type 0 where
     pub room : length (d .blocks) < 16
     pub location : u8At c 1 ≤ 63
     pub clearance : u8At c 2 ≤ 63
 
-  -- 04 and 05: a read or a write, at most 32 edges, of a service and a datum; no edge is the same, and a datum has one writer
+  -- 04 and 05: a read or a write, at most 32 edges, of a service and a datum; no edge is repeated, and a datum has one writer
   pub record EdgeGood (w : Way) : Type 0 where
     pub room : length (d .edges) < 32
     pub service : NamesService d (u8At c 1)
@@ -74,7 +74,7 @@ module _ (c : List ℕ) (d : Description) where
     pub cloud : u8At c 2 < length (d .clouds)
     pub free : Declarations·block d (u8At c 1) .pin ≡ Free
 
-  -- 07: a pair, at most 8, of two different data; no pair is the same, in either order
+  -- 07: a pair, at most 8, of two different data; no pair is repeated, in either order
   pub record PairGood : Type 0 where
     pub room : length (d .pairs) < 8
     pub left : NamesDatum d (u8At c 1)
@@ -85,7 +85,7 @@ module _ (c : List ℕ) (d : Description) where
 
 -- ---- commands and lists of them
 
--- The bytes c are one command, good after what d declares, and with it d becomes e.
+-- The bytes c are one command, which is good after what d declares and takes d to e.
 pub data Takes (c : List ℕ) (d e : Description) : Type 0 where
   cloud : u8At c 0 ≡ 1 → length c ≡ 10 → CloudGood c d → e ≡ withCloud d (cloudIn c) → Takes c d e
   datum : u8At c 0 ≡ 2 → length c ≡ 6 → DatumGood c d → e ≡ withBlock d (datumIn c) → Takes c d e
@@ -105,7 +105,7 @@ abbrev pub written : List (List ℕ) → List ℕ
 written [] = 0 ∷ []
 written (c ∷ cs) = c ++ written cs
 
--- The commands describe d: they declare it from nothing, with a cloud and a block at least.
+-- The commands describe d: starting from nothing they declare it, with at least a cloud and a block.
 pub record Describe (cs : List (List ℕ)) (d : Description) : Type 0 where
   pub declares : Declares cs nothing d
   pub someCloud : 0 < length (d .clouds)

@@ -1,4 +1,4 @@
--- The format: what the bytes of a description declare, and what of them is refused with 1 to 8.
+-- The format: what the bytes of a description declare, and which are refused with 1 to 8.
 use Prim.Native.Nat.{ℕ, zero, suc, pred, _+_, _*_}
 use mathlib.Core.Bool.{Bool, true, false, not, _&&_, _||_, cond}
 use mathlib.Core.List.{List, [], _∷_}
@@ -28,7 +28,7 @@ namedBy a x y = eqb x (a .left) && eqb y (a .right)
 unfoldable pub samePair : Pair → Pair → Bool
 samePair a b = namedBy b (a .left) (a .right) || namedBy b (a .right) (a .left)
 
--- numbers in bytes, most significant first, i bytes into the command
+-- numbers in bytes, most significant first, at offset i of the command
 abbrev pub u8At : List ℕ → ℕ → ℕ
 u8At s i = getD s i 0
 
@@ -38,8 +38,8 @@ u16At s i = u8At s i * 256 + u8At s (i + 1)
 abbrev pub u32At : List ℕ → ℕ → ℕ
 u32At s i = u16At s i * 65536 + u16At s (i + 2)
 
--- A command that bytes begin with: how many bytes it has; the numbers with which it is refused, each with whether it is, in the
--- order in which they are tested; and the description with it.
+-- The command at the front of some bytes: how many bytes it has; the numbers that it can be refused with, in the order of their tests,
+-- each with the result of its test; and the description after it.
 pub record Command : Type 0 where
   pub width : ℕ
   pub faults : List (ℕ × Bool)
@@ -116,7 +116,7 @@ pairAt s d = record {
 abbrev pub unknown : Description → Command
 unknown d = record { width = 1; faults = (2, true) ∷ []; after = d }
 
--- the command that s begins with, which is not 00
+-- the command at the front of s, which is not 00
 abbrev pub commandAt : List ℕ → Description → Command
 commandAt s d =
     cond (eqb (u8At s 0) 1) (cloudAt s d)
@@ -132,17 +132,17 @@ abbrev pub firstFault : List (ℕ × Bool) → Option ℕ
 firstFault [] = none
 firstFault (f ∷ fs) = cond (f .1) (some (f .0)) (firstFault fs)
 
--- the number with which the command that s begins with is refused: 1, that s ends inside it, goes before the others
+-- the number that the command at the front of s is refused with, if any: 1, if s ends inside it, comes before the others
 abbrev pub faultOf : List ℕ → Command → Option ℕ
 faultOf s c = firstFault ((1, ltb (length s) (c .width)) ∷ c .faults)
 
--- after 00, the end: 3 where a byte follows it
+-- after 00, the end: 3 if a byte follows it
 abbrev pub ended : List ℕ → ℕ → Description → Result Description
 ended [] at d = ok d
 ended (b ∷ rest) at d = refused 3 at
 
--- What the bytes from offset `at` on declare besides d; `skip` of them are the last bytes of a command that was read. The first bad
--- command decides. Input that ends without 00 is refused with 1 at its length.
+-- What the bytes from offset `at` on declare, added to d; the first `skip` of them are the last bytes of a command that was read already.
+-- The first bad command decides. Input that ends without 00 is refused with 1 at its length.
 abbrev pub readFrom : List ℕ → (skip at : ℕ) → Description → Result Description
 readFrom [] skip at d = refused 1 at
 readFrom (b ∷ rest) (suc skip) at d = readFrom rest skip (suc at) d

@@ -33,15 +33,15 @@ abbrev pub times : ℕ → List ℕ → List ℕ
 times zero command = []
 times (suc n) command = command ++ times n command
 
--- so many unpinned data on so many clouds, all at level 0
+-- as many unpinned data and clouds as given, all at level 0
 abbrev pub flat : (blocks clouds : ℕ) → List ℕ
 flat blocks clouds = times clouds (cloud 0) ++ times blocks (datum 0) ++ end
 
--- the placement of five blocks, or of fewer with 0 for the rest
+-- the placement of five blocks, or of fewer with 0 for the others
 abbrev pub place : (a b c d e : ℕ) → List ℕ
 place a b c d e = a ∷ b ∷ c ∷ d ∷ e ∷ 0 ∷ 0 ∷ 0 ∷ 0 ∷ 0 ∷ 0 ∷ 0 ∷ 0 ∷ 0 ∷ 0 ∷ 0 ∷ []
 
--- document 01's description M, the interview file: 65 bytes
+-- description M of `docs/FORMAT.md`, the interview file: 65 bytes
 abbrev pub m : List ℕ
 m =
     0x01 ∷ 0x00 ∷ 0x00 ∷ 0x0a ∷ 0x00 ∷ 0x0a ∷ 0x00 ∷ 0x0a ∷ 0x00 ∷ 0x0a ∷

@@ -1,4 +1,4 @@
--- What reading one command comes to.
+-- What reading one command gives.
 use Prim.Native.Nat.{ℕ}
 use mathlib.Core.Path.{_≡_}
 use mathlib.Core.List.{List}
@@ -14,7 +14,7 @@ abbrev pub faultIn : Checked → Option ℕ
 faultIn Sound = none
 faultIn (Fault number) = some number
 
--- A step says of the command that s begins with: its fault, its width and, where it has no fault, that d is the description after it.
+-- What a step says of the command at the front of s: its fault, its width, and if it has no fault, that d is the description after it.
 pub record Steps (s : List ℕ) (c : Command) (d : Description) (r : Step) : Type 0 where
   pub fault : faultIn (r .fault) ≡ faultOf s c
   pub width : r .width ≡ c .width

@@ -51,19 +51,19 @@ const CUT_SHORT: u8 = 1;
 
 const UNKNOWN_COMMAND: u8 = 2;
 
-// A byte stands behind 00.
+// There is a byte after 00.
 const AFTER_THE_END: u8 = 3;
 
-// A cloud, a block, an edge or a pair too many.
+// One cloud, block, edge or pair too many.
 const TOO_MANY: u8 = 4;
 
 // A byte that is no label.
 const OUT_OF_RANGE: u8 = 5;
 
-// A name that nothing has, or nothing of that kind.
+// A name that nothing has, or nothing of the right kind.
 const UNDECLARED: u8 = 6;
 
-// A repeated edge, a second writer, a second pin, a repeated pair or one datum twice.
+// A repeated edge, a second writer, a second pin, a repeated pair, or a datum paired with itself.
 const CLASHING: u8 = 7;
 
 // No cloud, or no block.
@@ -339,7 +339,7 @@ fn way_of(c: u8) -> Way
     Way::Writes
 }
 
-// A command whose byte is below those of edges: a cloud, a datum, a service, or none that is known.
+// A command whose byte is below those of edges: a cloud, a datum, a service, or an unknown one.
 fn earlier_step(s: &[u8], w: &mut Words) -> Step
     requires { ⌜ 0 < length (now s) ⌝ }
     requires { ⌜ u8At (now s) 0 < 4 ⌝ }
@@ -358,7 +358,7 @@ fn earlier_step(s: &[u8], w: &mut Words) -> Step
     faulty(UNKNOWN_COMMAND, 1)
 }
 
-// One whose byte is above them: a pin, a pair, or none that is known.
+// A command whose byte is above them: a pin, a pair, or an unknown one.
 fn later_step(s: &[u8], w: &mut Words) -> Step
     requires { ⌜ 0 < length (now s) ⌝ }
     requires { ⌜ 5 < u8At (now s) 0 ⌝ }
@@ -374,8 +374,8 @@ fn later_step(s: &[u8], w: &mut Words) -> Step
     faulty(UNKNOWN_COMMAND, 1)
 }
 
-// The command that s begins with, which is not 00. Most are edges, which two tests tell from all others. They have one call: where there
-// were two, it was not compiled in place, and what it answers went through memory.
+// The command at the front of s, which is not 00. Most are edges, which two tests separate from all others. Edges share one call: with two
+// calls the function was not inlined, and its answer went through memory.
 fn command_step(s: &[u8], w: &mut Words) -> Step
     requires { ⌜ 0 < length (now s) ⌝ }
     ensures { λ r. ⌜ Steps (now (s .entry)) (commandAt (now (s .entry)) (describes (now (w .entry)))) (describes (now (w .exit))) r ⌝ }
@@ -396,7 +396,7 @@ fn refuse(number: u8, place: usize) -> Outcome
     Outcome::Refused(Refusal { number, place })
 }
 
-// All commands, to 00 and the end behind it.
+// All commands, up to 00 and the end after it.
 fn read_commands(s: &[u8], w: &mut Words) -> Outcome
     ensures { λ r. ⌜ outcomeOf r (describes (now (w .exit))) ≡ readFrom (now (s .entry)) 0 0 nothing ⌝ }
 {
@@ -419,7 +419,7 @@ fn read_commands(s: &[u8], w: &mut Words) -> Outcome
     refuse(CUT_SHORT, at)
 }
 
-// The whole description, with a cloud and a block at least.
+// The whole description, with at least a cloud and a block.
 fn read_whole(s: &[u8], w: &mut Words) -> Outcome
     ensures { λ r. ⌜ outcomeOf r (describes (now (w .exit))) ≡ decode (now (s .entry)) ⌝ }
 {

@@ -1,4 +1,4 @@
--- An array of which the first n elements count: how many that is, an element by its number, one more element, another element.
+-- An array of which the first n elements count: how many those are, an element by its number, one more element, a replaced element.
 use mathlib.Core.Path.{_≡_, sym, ap}
 use Prim.Native.Nat.{ℕ, _+_, _≤_, _<_}
 use native.Mathlib.Numerals.{add-one}
@@ -8,7 +8,7 @@ use lib.ListN.{length, getD, take, set, length-take, List·getD-eq-default}
 use lib.Seq.{getD-take, take-suc-set, take-set-lt}
 
 module _ {A : Type 0} (n : ℕ) (l : List A) where
-  -- all that are counted are there, or the array is full
+  -- all that are counted exist, or the array is full
   pub count-short : (k : ℕ) → length l ≡ k → n < k → n ≡ length (take n l)
   count-short k h t = simp length-take (omega arith)
 
@@ -21,7 +21,7 @@ module _ {A : Type 0} (n : ℕ) (l : List A) where
   pub at-past : (i : ℕ) (z : A) → length (take n l) ≤ i → z ≡ getD (take n l) i z
   at-past i z h = sym (List·getD-eq-default (take n l) z h)
 
-  -- where there is room, storing at the count puts the element behind the others
+  -- if there is room, storing at the count puts the element after the others
   pub one-more : (m : ℕ) (x : A) → m ≡ length (take n l) → m < length l → take (m + 1) (set l m x) ≡ take n l ++ (x ∷ [])
   one-more m x e h =
       let q : m ≡ n = (let t = length-take n l in omega arith) in

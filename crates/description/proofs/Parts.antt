@@ -1,4 +1,4 @@
--- Records of the words: what another one leaves of the others, and of the parts that they make.
+-- Records of the words: what storing one leaves of the others, and of the parts that they make.
 use mathlib.Core.Path.{_≡_, refl, sym, ap, ap₂, _∙_}
 use Prim.Native.Nat.{ℕ, zero, suc, _+_, _*_, _≤_, _<_}
 use native.Mathlib.Nat.{suc-add, add-zero, add-suc}
@@ -26,7 +26,7 @@ module _ (w : List ℕ) (r : ℕ) (x : Record) where
   abbrev w4 : List ℕ
   w4 = set w3 (r * 5 + 3) (x .d)
 
-  -- what is not in record r is as it was
+  -- what is not in record r is unchanged
   beside : (i : ℕ) → ((j : ℕ) → j < 5 → i ≡ r * 5 + j → ⊥) → getD (putRecord w r x) i 0 ≡ getD w i 0
   beside i h =
       getD-set-other w4 (r * 5 + 4) i (x .e) 0 (h 4 (omega arith)) ∙ getD-set-other w3 (r * 5 + 3) i (x .d) 0 (h 3 (omega arith)) ∙
@@ -42,7 +42,7 @@ module _ (w : List ℕ) (r : ℕ) (x : Record) where
     beside (q * 5 + 4) (λ j l e. n (omega arith)),
   ) refl
 
-  -- record r is x, where there is such a record
+  -- record r is x, if there is such a record
   pub record-same : r * 5 + 4 < length w → recordAt (putRecord w r x) r ≡ x
   record-same h = rw (first, second, third, fourth, fifth) refl
     where
@@ -81,7 +81,7 @@ module _ {A : Type 0} (f : Record → A) where
   part-at start (suc many) w (suc k) z h =
       part-at (suc start) many w k z (omega arith) ∙ ap (λ (r : ℕ). f (recordAt w r)) (suc-add start k ∙ sym (add-suc start k))
 
-  -- a part goes by its records
+  -- a part depends only on its records
   pub part-agree : (start many : ℕ) (v w : List ℕ) → ((q : ℕ) → start ≤ q → q < start + many → recordAt v q ≡ recordAt w q)
       → part f start many v ≡ part f start many w
   unfolding part
@@ -89,7 +89,7 @@ module _ {A : Type 0} (f : Record → A) where
   part-agree start (suc many) v w h =
       rw (h start (omega arith) (omega arith)) (ap (λ l. f (recordAt w start) ∷ l) (part-agree (suc start) many v w (λ q a b. h q (omega arith) (omega arith))))
 
-  -- another record within the part is another element of it
+  -- replacing a record within the part replaces an element of it
   replaced : (start many : ℕ) (v w : List ℕ) (k : ℕ) (x : Record) → k < many → recordAt v (start + k) ≡ x
       → ((q : ℕ) → (q ≡ start + k → ⊥) → recordAt v q ≡ recordAt w q) → part f start many v ≡ set (part f start many w) k (f x)
   unfolding part

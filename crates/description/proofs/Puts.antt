@@ -1,4 +1,4 @@
--- What the words describe once a record is put: one more cloud, block, edge or pair, or another block.
+-- What the words describe after a record is put: one more cloud, block, edge or pair, or a replaced block.
 use mathlib.Core.Path.{_≡_, refl, sym, ap, _∙_}
 use Prim.Native.Nat.{ℕ, _+_, _≤_, _<_, min}
 use native.Mathlib.Omega.{arith}
@@ -37,7 +37,7 @@ pub few-blocks : (w : List ℕ) → length (describes w .blocks) ≤ mostBlocks
 unfolding describes
 few-blocks w = omega (arith, how-many toBlock firstBlock mostBlocks (recordAt w counts .b) w)
 
--- ---- what they describe once a record is put
+-- ---- what they describe after a record is put
 
 module _ (w : List ℕ) (l : length w ≡ wordCount) where
   -- the counts, and with them how much of each part counts
@@ -118,7 +118,7 @@ module _ (w : List ℕ) (l : length w ≡ wordCount) (n : ℕ) (x : Record) wher
       ap (λ ps. record { clouds = describes w .clouds; blocks = describes w .blocks; edges = describes w .edges; pairs = ps })
       (one-more (recordAt w counts .d) (part toPair firstPair mostPairs w) n (toPair x) e (omega (arith, part-length toPair firstPair mostPairs w)))
 
-  -- another block n
+  -- block n replaced
   pub another-block : n < length (describes w .blocks)
       → let d = describes w in
       describes (putRecord w (firstBlock + n) x) ≡ record { clouds = d .clouds; blocks = set (d .blocks) n (toBlock x); edges = d .edges; pairs = d .pairs }

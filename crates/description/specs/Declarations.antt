@@ -15,8 +15,8 @@ use Rattle.description.specs.declared.workflow.Pair.{Pair}
 use Rattle.description.specs.declared.workflow.Way.{Way}
 use Rattle.description.specs.declared.workflow.Way.the-variants.{Reads, Writes}
 
--- What a description declares. Clouds, blocks, edges and pairs of data that must never meet stand in order of appearance: an element's
--- number is its position. A block carries its pin.
+-- What a description declares. Clouds, blocks, edges and pairs of data that must never meet are in order of appearance: the number of an
+-- element is its position. A block has its pin with it.
 pub record Description : Type 0 where
   pub clouds : List Cloud
   pub blocks : List Block
@@ -38,7 +38,7 @@ withEdge d e = record { clouds = d .clouds; blocks = d .blocks; edges = d .edges
 abbrev pub withPair : Description → Pair → Description
 withPair d a = record { clouds = d .clouds; blocks = d .blocks; edges = d .edges; pairs = d .pairs ++ (a ∷ []) }
 
--- cloud k, block b, edge n and pair n, by number; what stands past the last is never declared
+-- cloud k, block b, edge n and pair n, by number; past the last one there is a default with zeros
 abbrev pub noCloud : Cloud
 noCloud = record { label = 0; storage = 0; inward = 0; outward = 0; cpu = 0 }
 
@@ -87,7 +87,7 @@ abbrev pub sameWay : Way → Way → Bool
 sameWay Reads w = not (isWrite w)
 sameWay Writes w = isWrite w
 
--- cloud k, block b are declared; block b is a declared datum, a declared service
+-- cloud k is declared, block b is declared; block b is a declared datum, is a declared service
 abbrev pub namesCloud : Description → ℕ → Bool
 namesCloud d k = ltb k (length (d .clouds))
 

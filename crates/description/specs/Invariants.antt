@@ -27,7 +27,7 @@ abbrev pub pinBelow : ℕ → Pin → Type 0
 pinBelow n Free = Unit {0}
 pinBelow n (To k) = k < n
 
--- Clouds and blocks are spoken of at every number: what stands past the last is 0 throughout, and free.
+-- What is said of clouds and blocks holds at every number: past the last one all fields are 0, and there is no pin.
 pub record WellFormed (d : Description) : Type 0 where
   pub limits : Limits d
   pub someCloud : 0 < length (d .clouds)
@@ -65,7 +65,7 @@ pub record InRange (d : Description) : Type 0 where
   pub rates : (k : ℕ) → RatesFit (cloud d k)
   pub kinds : (b : ℕ) → kindFits (block d b .kind)
 
--- what a bound on a cost rests on
+-- what the bound on costs needs
 pub record Bounded (d : Description) : Type 0 where
   pub limits : Limits d
   pub inRange : InRange d

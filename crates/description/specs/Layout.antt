@@ -56,15 +56,15 @@ abbrev pub recordAt : List ℕ → ℕ → Record
 recordAt w r =
     record { a = getD w (r * 5) 0; b = getD w (r * 5 + 1) 0; c = getD w (r * 5 + 2) 0; d = getD w (r * 5 + 3) 0; e = getD w (r * 5 + 4) 0 }
 
--- the words with another record r
+-- the words with x as record r
 abbrev pub putRecord : List ℕ → ℕ → Record → List ℕ
 putRecord w r x = set (set (set (set (set w (r * 5) (x .a)) (r * 5 + 1) (x .b)) (r * 5 + 2) (x .c)) (r * 5 + 3) (x .d)) (r * 5 + 4) (x .e)
 
--- what each of a number of records stands for, from record `start` on
+-- what `many` records mean, from record `start` on
 unfoldable pub part : {A : Type 0} → (Record → A) → (start many : ℕ) → List ℕ → List A
 part f start many w = map (λ r. f (recordAt w r)) (from start many)
 
--- A record as a cloud, a block, an edge or a pair. What does not fit into a field is cut off, so that every record is one.
+-- A record as a cloud, a block, an edge or a pair. What does not fit into a field is cut off, so every record is one.
 abbrev pub toCloud : Record → Cloud
 toCloud x = record { label = x .a % 256; storage = x .b % 65536; inward = x .c % 65536; outward = x .d % 65536; cpu = x .e % 65536 }
 

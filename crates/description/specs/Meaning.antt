@@ -1,4 +1,4 @@
--- What the code's values mean: the description that the words hold, and the result that an outcome is.
+-- What the code's values mean: the description that the words hold, and the result that an outcome represents.
 use Prim.Native.Nat.{ℕ}
 use mathlib.Core.Path.{_≡_}
 use mathlib.Core.List.{List}
@@ -15,7 +15,7 @@ use Rattle.description.specs.declared.workflow.Outcome.the-variants.{Acc
 use Rattle.description.specs.Declarations.{Description}
 use Rattle.sequences.specs.Results.{Result, ok, refused}
 
--- of each as many as the record of counts says
+-- as many of each as the record of counts says
 abbrev pub counted : Record → List Cloud → List Block → List Edge → List Pair → Description
 counted n cs bs es ps = record { clouds = take (n .a) cs; blocks = take (n .b) bs; edges = take (n .c) es; pairs = take (n .d) ps }
 
@@ -25,7 +25,7 @@ describes w =
     counted (recordAt w counts) (part toCloud firstCloud mostClouds w) (part toBlock firstBlock mostBlocks w)
     (part toEdge firstEdge mostEdges w) (part toPair firstPair mostPairs w)
 
--- the answer enum's cases, with the number and place of a refusal
+-- the cases of the answer, with the number and place of a refusal
 abbrev pub outcomeOf : {A : Type 0} → Outcome → A → Result A
 outcomeOf Accepted a = ok a
 outcomeOf (Refused r) a = refused (r .number) (r .place)

@@ -56,7 +56,7 @@ pub fn record_at(w: &Words, r: usize) -> Record
     }
 }
 
-// The words are as many as their type says. A proof learns that where they are lent as a slice; the code does nothing.
+// There are as many words as their type says. A proof learns that from this when they are lent as a slice; the code does nothing.
 fn all_there(w: &Words)
     ensures { λ _. ⌜ length (now (w .entry)) ≡ wordCount ⌝ }
 {

@@ -1,6 +1,6 @@
 // What a description declares: clouds, blocks, edges and pairs, each a record of the words that the caller lends.
 ghost use mathlib.Core.Path.{_≡_};
-ghost use Prim.Native.Nat.{_<_, _≤_, _%_, min};
+ghost use Prim.Native.Nat.{_<_, _≤_, min};
 ghost use lib.ListN.{length};
 ghost use Rattle.description.specs.Declarations.{cloud, block, edge, pair, nothing, withCloud, withBlock, withEdge, withPin, withPair};
 ghost use Rattle.description.specs.Declarations.{isDatum, isWrite};
@@ -40,7 +40,7 @@ pub enum Pin {
     To(u8),
 }
 
-// A block: its label (of a service its location) and pin, and its kind's own fields.
+// A block: its label (for a service, its location) and pin, and its kind's own fields.
 pub struct Block {
     pub label: u8,
     pub kind: Kind,
@@ -58,7 +58,7 @@ pub struct Edge {
     pub datum: u8,
 }
 
-// Two data that no cloud may hold together: in placement's words, an anti-affinity.
+// Two data that no cloud may hold together: an anti-affinity, in the usual term for placements.
 pub struct Pair {
     pub left: u8,
     pub right: u8,
@@ -352,7 +352,7 @@ pub fn pair_at(w: &Words, n: usize) -> Pair
     Pair { left: 0, right: 0 }
 }
 
-// One more cloud, block, edge, pair or pin, where there is room for it.
+// One more cloud, block, edge, pair or pin, if there is room for it.
 pub fn put_cloud(w: &mut Words, c: Cloud)
     requires { ⌜ length (describes (now w) .clouds) < 8 ⌝ }
     ensures { λ _. ⌜ describes (now (w .exit)) ≡ withCloud (describes (now (w .entry))) c ⌝ }

@@ -1,4 +1,4 @@
--- The lines, where they are put.
+-- The lines in the text.
 use Prim.Native.Nat.{ℕ, _+_, _≤_, min}
 use native.Mathlib.Nat.{zero-add}
 use native.Mathlib.Omega.{arith}
@@ -18,7 +18,7 @@ written-front line old e h = (
   ap₂ take e h ∙ take-append-seam line (drop (0 + length line) old),
 )
 
--- the same of a line for which there is room
+-- the same for a line for which there is room
 pub placed-front : (line old : List ℕ) (most : ℕ) {now : List ℕ} {end : ℕ} → most ≤ length old → length line ≤ most
     → end ≡ placedEnd line old 0 → now ≡ placed line old 0 → Front line end now
 placed-front line old most room few p q =

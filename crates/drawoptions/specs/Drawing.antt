@@ -1,4 +1,4 @@
--- What `drawoptions` prints: a line for each draw of a chain, and no more behind the first that is no row.
+-- What `drawoptions` prints: a line for each draw of a chain, up to and including the first that is no row.
 use Prim.Native.Nat.{ℕ, _≤_, min}
 use mathlib.Core.Path.{_≡_}
 use mathlib.Core.List.{List}
@@ -23,7 +23,7 @@ abbrev pub digitsIn : Result Counts → ℕ
 digitsIn (ok counts) = min (counts .blocks) mostDigits
 digitsIn (refused number place) = 0
 
--- a row, by the words of which its line is made
+-- a row, by the words that its line is made of
 abbrev pub rowText : (digits : ℕ) → Row → List ℕ
 rowText digits r = wordsLine digits (r .cost) (pack (take digits (r .placement))) (r .bill .storage) (r .bill .transfer) (r .bill .cpu)
 

@@ -1,5 +1,5 @@
 // Lists the options of the description on standard input by a chain of draws, a line for each as it is drawn. It prints what `listoptions`
-// prints, and is there to be compared with it: a draw is a walk over all placements, so a long list takes long.
+// prints, and is there to be compared with it: a draw is a walk over all placements, so a long list takes a long time.
 ghost use Prim.Native.Nat.{_≤_, min};
 ghost use mathlib.Core.Path.{_≡_};
 ghost use lib.ListN.{length, take};
@@ -31,7 +31,7 @@ fn at_most_digits(blocks: usize) -> usize
     if blocks < DIGITS { blocks } else { DIGITS }
 }
 
-// How many digits each row has; of what is refused there are none.
+// How many digits each row has; none for a refusal.
 fn digits_of(description: &[u8]) -> usize
     ensures { λ r. ⌜ (r ≡ digitsIn (readCall (now (description .entry)))) × (r ≤ mostDigits) ⌝ }
 {
@@ -66,7 +66,7 @@ fn packed(placement: [u8; 16], digits: usize) -> u64
     place
 }
 
-// Each of these puts a line at the front of the text, and answers the offset behind it.
+// Each of these puts a line at the front of the text, and answers the offset after it.
 
 fn put_row(row: Row, digits: usize, text: &mut [u8]) -> usize
     requires { ⌜ (digits ≤ mostDigits) × (length (now text) ≡ lineBytes) ⌝ }
@@ -92,8 +92,8 @@ fn put_line(drawn: Drawn, draw: usize, digits: usize, text: &mut [u8]) -> usize
     }
 }
 
-// Hands the front of the text to standard output; nothing else does. Of what was handed over no contract can say anything afterwards, so it
-// asks before: this is the line of that draw of the description's chain.
+// Hands the front of the text to standard output; nothing else does. No contract can say afterwards what was handed over, so this one asks
+// before: this is the line of that draw of the description's chain.
 fn write_line(description: &[u8], draw: usize, text: &[u8], end: usize) -> bool
     requires { ⌜ Front (lineAt (now description) draw) end (now text) ⌝ }
 {

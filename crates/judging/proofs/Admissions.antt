@@ -1,4 +1,4 @@
--- What an admission tells of what Read gives: a refusal, or the description with its masks and how many candidates it has.
+-- What an admission says of Read's result: a refusal, or the description with its masks and how many candidates it has.
 use Prim.Native.Nat.{ℕ}
 use mathlib.Core.Path.{_≡_, sym, ap, _∙_}
 use mathlib.Core.List.{List}
@@ -35,7 +35,7 @@ module _ {o : Admission} (d : Description) (v : Result Description) (means : adm
       go (ok x) h = absurd (ok-not-refused (sym h))
       go (refused number place) h = sym (ap (λ t. andThen t (λ p. ok (p .0))) h)
 
--- the masks that come with what was accepted
+-- the masks that come with an accepted description
 pub masks-accepted : {v : Result Description} {d : Description} (before : List ℕ) {after : List ℕ} → v ≡ ok d → after ≡ masksAfter (masked v) before
     → after ≡ masksOf d
 masks-accepted before e h = h ∙ ap (λ r. masksAfter (masked r) before) e

@@ -17,7 +17,7 @@ pub judgeCall-is : (s p : List ℕ) → judgeCall s p ≡ andThen (read s) (λ d
 unfolding judgeCall
 judgeCall-is s p = refl
 
--- secure exactly where the bytes are accepted and the placement is secure for what they declare
+-- secure exactly if the bytes are accepted and the placement is secure for what they declare
 pub judgeCall-secure : (s p : List ℕ) → (judgeCall s p ≡ ok tt) ↔ ((d : Description) × (read s ≡ ok d) × Secure d p)
 unfolding judgeCall
 judgeCall-secure s p = Iff·trans (andThen-ok (read s) (λ d. judge d p) tt) (

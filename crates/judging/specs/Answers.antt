@@ -1,4 +1,4 @@
--- What Read and Masks answer, as enums: for every case the scope's number and values.
+-- The answers of Read and Masks as enums: the scope's number and values for every case.
 use Prim.Native.Nat.{ℕ}
 use mathlib.Core.List.{List}
 use Rattle.description.specs.Declarations.{Description}
@@ -32,7 +32,7 @@ abbrev pub maskedAnswer : Masked → Result (Unit {0})
 maskedAnswer masked.Written = ok tt
 maskedAnswer (masked.Refused r) = refused (r .number) (r .place)
 
--- the lent array after the call; after a refusal it is as it was
+-- the lent array after the call; unchanged after a refusal
 abbrev pub masksAfter : Result (List ℕ) → List ℕ → List ℕ
 masksAfter (ok ms) before = ms
 masksAfter (refused number place) before = before

@@ -1,4 +1,4 @@
--- The calls Read, Masks, Judge and Transfers: each takes the description's bytes and first gives what Read refuses.
+-- The calls Read, Masks, Judge and Transfers: each takes the description's bytes, and refuses first what Read refuses.
 use Prim.Native.Nat.{ℕ}
 use mathlib.Core.List.{List}
 use lib.ListN.{length}

@@ -11,9 +11,9 @@ abbrev pub threeLevels : List ℕ
 threeLevels = cloud 2 ++ cloud 0 ++ cloud 1
 
 pub record Masked : Type 0 where
-  -- document 01's description M: the first datum needs level 1, which the second cloud alone has
+  -- description M: the first datum needs level 1, which only the second cloud has
   pub interview : masksCall m ≡ ok (place 2 3 3 3 3)
-  -- levels 0, 1, 2 and 3 on clouds of levels 2, 0 and 1: all three, two with a gap, the first, none; a service by its location
+  -- levels 0, 1, 2 and 3 on clouds of levels 2, 0 and 1: all three, two with a gap, the first, none; a service goes by its location
   pub levels : masksCall (threeLevels ++ datum 0 ++ datum 1 ++ service 2 3 ++ datum 3 ++ end) ≡ ok (place 7 5 1 0 0)
   -- a pin; one to a cloud that is too low
   pub pins : masksCall (threeLevels ++ datum 0 ++ datum 1 ++ pin 0 1 ++ pin 1 1 ++ end) ≡ ok (place 2 0 0 0 0)

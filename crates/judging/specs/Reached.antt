@@ -1,5 +1,5 @@
--- Each of the scope's numbers is given for some input: a table of examples with their places, one for each cause that the
--- document names of a number; and the order in which they are given, by inputs that have two faults.
+-- Each of the scope's numbers is given for some input: a table of examples with their places, one for each cause of a number; and the order
+-- in which they are given, by inputs that have two faults.
 use Prim.Native.Nat.{ℕ}
 use mathlib.Core.Path.{_≡_}
 use mathlib.Core.List.{List, [], _∷_, _++_}
@@ -12,7 +12,7 @@ use Rattle.sequences.specs.Results.{refused}
 abbrev pub twoLevels : List ℕ
 twoLevels = cloud 0 ++ cloud 1 ++ datum 1 ++ service 0 1
 
--- three data on two clouds, of which the first must not meet the second, nor the second the third
+-- three data on two clouds; the first must not meet the second, nor the second the third
 abbrev pub threeData : List ℕ
 threeData = times 2 (cloud 0) ++ times 3 (datum 0) ++ pair 0 1 ++ pair 1 2 ++ end
 
@@ -35,7 +35,7 @@ pub record Reached : Type 0 where
   pub number5 :
       (readCall (cloud 63 ++ cloud 64 ++ end) ≡ refused 5 10) × (readCall (datum 63 ++ datum 64) ≡ refused 5 6) ×
       (readCall (service 64 63) ≡ refused 5 0) × (readCall (service 63 64) ≡ refused 5 0)
-  -- a name undeclared; of the wrong kind; a pair's second name undeclared; its first a service, before the same name twice
+  -- an undeclared name; one of the wrong kind; a pair's second name undeclared; a service paired with itself, whose kind is tested first
   pub number6 :
       (readCall (cloud 0 ++ pin 0 0) ≡ refused 6 10) × (readCall (datum 0 ++ datum 0 ++ reads 0 1) ≡ refused 6 12) ×
       (readCall (datum 0 ++ pair 0 1) ≡ refused 6 6) × (readCall (service 0 0 ++ pair 0 0) ≡ refused 6 7)
@@ -53,11 +53,11 @@ pub record Reached : Type 0 where
   pub number9 : readCall (cloud 0 ++ datum 0 ++ service 1 0 ++ end) ≡ refused 9 1
   -- rule 3, of edge 0
   pub number10 : readCall (cloud 0 ++ service 0 0 ++ datum 1 ++ reads 0 1 ++ end) ≡ refused 10 0
-  -- rule 4, of edge 1: a read may do what a write may not
+  -- rule 4, of edge 1: a read of the same service and datum is accepted
   pub number11 : readCall (cloud 0 ++ service 1 1 ++ datum 0 ++ reads 0 1 ++ writes 0 1 ++ end) ≡ refused 11 1
   -- 3^11 candidates
   pub number12 : readCall (flat 11 3) ≡ refused 12 0
-  -- an undeclared cloud; a cloud of too low a level; a pin not kept; a position past the last block that isn't 0
+  -- an undeclared cloud; a cloud of too low a level; a pin not kept; a position past the last block that is not 0
   pub number13 :
       (judgeCall (flat 2 1) (place 0 1 0 0 0) ≡ refused 13 1) ×
       (judgeCall (twoLevels ++ end) (place 0 0 0 0 0) ≡ refused 13 0) ×
@@ -69,7 +69,7 @@ pub record Reached : Type 0 where
   pub number15 : judgeCall (twoLevels ++ writes 1 0 ++ end) (place 1 0 0 0 0) ≡ refused 15 0
   -- a transfer needs 4 bytes, and the buffer has 3
   pub number16 : transfersCall (cloud 0 ++ cloud 0 ++ datum 0 ++ service 0 0 ++ reads 1 0 ++ end) (place 0 1 0 0 0) 3 ≡ refused 16 4
-  -- the second of two pairs; both, and the first is told; a copy that a read makes
+  -- the second of two pairs; both, and the first is reported; a copy that a read makes
   pub number17 :
       (judgeCall threeData (place 0 1 1 0 0) ≡ refused 17 1) ×
       (judgeCall threeData (place 0 0 0 0 0) ≡ refused 17 0) ×

@@ -65,7 +65,7 @@ fn soundness(w: &Words, masks: &mut Masks) -> Admission
     Admission::Accepted(candidates)
 }
 
-// What Read accepts, decoded into the words, with its masks; a refusal leaves the words cleared and the masks as they were.
+// What Read accepts, decoded into the words, with its masks; a refusal leaves the words cleared and the masks unchanged.
 pub fn accept_with_masks(description: &[u8], w: &mut Words, masks: &mut Masks) -> Admission
     requires { ⌜ now masks ≡ replicate 16 0 ⌝ }
     ensures { λ r. ⌜ admissionOf r (describes (now (w .exit))) ≡ counted (read (now (description .entry))) ⌝ }

@@ -1,4 +1,4 @@
-// What Read answers, and what it hands on to the calls above it.
+// What Read answers, and what it passes on to the calls above it.
 use description::workflow::Refusal;
 
 pub enum Acceptance {
@@ -10,7 +10,7 @@ pub enum Acceptance {
     Refused(Refusal),
 }
 
-// An accepted description comes with the number of its candidates, so that nobody has to count them again.
+// An accepted description comes with the number of its candidates, so that they are not counted again.
 pub enum Admission {
     Accepted(u64),
     Refused(Refusal),

@@ -71,8 +71,10 @@ pub fn judge(description: &[u8], placement: [u8; 16]) -> Verdict
 
 // The transfers of a secure placement, in edge order, four bytes each, at the front of the buffer.
 pub fn transfers(description: &[u8], placement: [u8; 16], buffer: &mut [u8]) -> Transferred
-    ensures { λ r. ⌜ transfersAnswer r ≡ andThen (transfersCall (now (description .entry)) placement (length (now (buffer .entry)))) (λ ts. ok (length ts)) ⌝ }
-    ensures { λ r. ⌜ now (buffer .exit) ≡ bufferAfter (transfersCall (now (description .entry)) placement (length (now (buffer .entry)))) (now (buffer .entry)) ⌝ }
+    ensures { λ r. ⌜ transfersAnswer r
+        ≡ andThen (transfersCall (now (description .entry)) placement (length (now (buffer .entry)))) (λ ts. ok (length ts)) ⌝ }
+    ensures { λ r. ⌜ now (buffer .exit)
+        ≡ bufferAfter (transfersCall (now (description .entry)) placement (length (now (buffer .entry)))) (now (buffer .entry)) ⌝ }
 {
     let mut w = [0u32; WORDS];
     let mut masks = [0u8; POSITIONS];

@@ -12,7 +12,7 @@ use Rattle.sequences.proofs.Bits.{bit-is, bit-off}
 use Rattle.sequences.proofs.Tests.{both-pass, not-passed}
 use Rattle.labels.specs.Labels.{levelOf, embargoed, namesSource, covers, Covers}
 
--- the test of a mark, bit k: what the one has, the other has
+-- the test of a mark, bit k: if the low label has it, the high one has it
 mark-kept : (high low k : ℕ) → (not (bit low k) || bit high k ≡ true) ↔ (low / 2 ^ k % 2 ≡ 1 → high / 2 ^ k % 2 ≡ 1)
 mark-kept high low k = rw (bit-is low k, bit-is high k) (elim (ℕ-discrete (low / 2 ^ k % 2) 1) [
   | yes e ↦ rw (eq-eqb (low / 2 ^ k % 2) 1 e) (λ t _. eqb-true (high / 2 ^ k % 2) 1 t, λ f. eq-eqb (high / 2 ^ k % 2) 1 (f e))
@@ -31,7 +31,7 @@ covers-is high low = (
       (both-pass _ _ .1 (le-leb _ _ (k .level), mark-kept high low 4 .1 (k .embargo)), mark-kept high low 5 .1 (k .source)),
 )
 
--- not covered, which in a partial order is not to be below
+-- the test fails exactly if the label is not covered, which in a partial order does not mean that it is higher
 pub covers-not : (high low : ℕ) → (covers high low ≡ false) ↔ (Covers high low → ⊥)
 covers-not high low = (
   λ f k. true≢false (sym (covers-is high low .1 k) ∙ f),
@@ -51,14 +51,14 @@ covers-transitive x y z a b =
       source = λ e. k .source (l .source e);
     })
 
--- two numbers of one digit that are 1 together are the same
+-- two binary digits are equal if each is 1 whenever the other is
 same-digit : (m n : ℕ) → m < 2 → n < 2 → (m ≡ 1 → n ≡ 1) → (n ≡ 1 → m ≡ 1) → m ≡ n
 same-digit m n a b f g = elim (ℕ-discrete m 1) [
   | yes e ↦ e ∙ sym (f e)
   | no other ↦ let others : n ≡ 1 → ⊥ = λ e. other (g e) in omega (arith, a, b, other, others)
 ]
 
--- A label, which is below 64, is made of its level and its marks. So two labels that cover each other are one.
+-- A label, which is below 64, is made of its level and its marks. So two labels that cover each other are equal.
 made : (x : ℕ) → x < 64 → x ≡ x % 16 + x / 16 % 2 * 16 + x / 32 % 2 * 32
 made x h =
     let q : x / 16 ≡ x / 32 * 2 + x / 16 % 2 = omega arith in
@@ -89,7 +89,7 @@ covers-levels high low hh hl =
     go true = refl
     go false = refl
 
--- bits from 6 on have no part in it
+-- bits from 6 on do not count
 low-level : (n : ℕ) → n % 64 % 16 ≡ n % 16
 low-level n = omega arith
 

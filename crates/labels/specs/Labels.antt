@@ -25,13 +25,13 @@ unfoldable pub covers : (high low : ℕ) → Bool
 covers high low =
     leb (levelOf low) (levelOf high) && (not (embargoed low) || embargoed high) && (not (namesSource low) || namesSource high)
 
--- The same in numbers, and with none of the tests: bits 4 and 5 are what is left of 16 and of 32.
+-- The same in numbers, without the tests: bit 4 of a label is label / 16 % 2, bit 5 is label / 32 % 2.
 pub record Covers (high low : ℕ) : Type 0 where
   pub level : low % 16 ≤ high % 16
   pub embargo : low / 16 % 2 ≡ 1 → high / 16 % 2 ≡ 1
   pub source : low / 32 % 2 ≡ 1 → high / 32 % 2 ≡ 1
 
--- the table's entry: 1 where the row's label covers the column's
+-- the table's entry: 1 if the row's label covers the column's
 abbrev pub entryOf : (row column : ℕ) → ℕ
 entryOf row column = cond (covers row column) 1 0
 

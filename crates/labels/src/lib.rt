@@ -86,7 +86,7 @@ fn whole_table() -> [u64; LABELS]
     TABLE
 }
 
-// The row of a label. An index that varies would have the compiler build the table in memory at each use; of fixed ones it makes one load
+// The row of a label. With a variable index the compiler would build the table in memory at each use; with fixed ones it makes one load
 // from constant memory.
 fn row_in(rows: &[u64; LABELS], label: u8) -> u64
     requires { ⌜ label < 64 ⌝ }
@@ -160,7 +160,7 @@ fn row_in(rows: &[u64; LABELS], label: u8) -> u64
     }
 }
 
-// The labels that this one covers: its row of the table. Of a byte above 63 only bits 0 to 5 are looked at.
+// The labels that this one covers: its row of the table. Only bits 0 to 5 of a byte above 63 count.
 fn covered_by(label: u8) -> u64
     ensures { λ r. ⌜ r ≡ rowOf label ⌝ }
 {

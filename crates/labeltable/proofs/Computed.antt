@@ -1,4 +1,4 @@
--- The text by its places is that of the rows, by computation over all of it.
+-- The text given place by place is that of the rows, by computation over all of it.
 use mathlib.Core.Path.{_≡_, refl}
 use Rattle.labels.specs.Labels.{covers}
 use Rattle.sequences.specs.Arrays.{table}

@@ -26,7 +26,7 @@ fn byte_at(k: usize) -> u8
     b'0'
 }
 
-// A function for the array: where one is made in place, its proof compares lists of that length.
+// A separate function for the array: if it were made in place, the proof would compare lists of that length.
 fn blank() -> [u8; TEXT]
     ensures { λ r. ⌜ r ≡ replicate 4160 0 ⌝ }
 {
@@ -45,8 +45,8 @@ fn text() -> [u8; TEXT]
     text
 }
 
-// Hands the text to standard output; nothing else does. Of what was handed over no contract can say anything afterwards, so it asks before:
-// this is the table, all of it.
+// Hands the text to standard output; nothing else does. No contract can say afterwards what was handed over, so this one asks before: the
+// text is the table, all of it.
 fn write_table(text: &[u8])
     requires { ⌜ now text ≡ printed ⌝ }
 {

@@ -1,5 +1,5 @@
--- The decimal of a number: a digit alone, or a tenth's decimal and one more digit. By that it has digits only, is read back, has no
--- leading zero, and is at most 20 digits long for 64 bits.
+-- The decimal of a number: a single digit, or the decimal of n / 10 and one more digit. So it has only digits, is read back, has no
+-- leading zero, and has at most 20 digits for 64 bits.
 use Prim.Native.Nat.{ℕ, zero, suc, _+_, _-_, _*_, _/_, _^_, _≤_, _<_}
 use native.Mathlib.Nat.{pow-suc, div-lt-iff-lt-mul}
 use native.Mathlib.Decide.{decLt}
@@ -41,7 +41,7 @@ pub large : (n : ℕ) → 10 ≤ n → decimal n ≡ decimal (n / 10) ++ (digit 
 unfolding decimal
 large n h = more-places n n h ∙ ap (λ s. s ++ (digit n ∷ [])) (enough n (suc (n / 10)) (n / 10) (omega arith) (omega arith))
 
--- what holds of a digit, and of a number where it holds of its tenth, holds of every number
+-- what holds of every digit, and of a number if it holds of its tenth, holds of every number
 by-tenths : (P : ℕ → Type 0) → ((n : ℕ) → n < 10 → P n) → ((n : ℕ) → 10 ≤ n → P (n / 10) → P n) → (n : ℕ) → P n
 by-tenths P alone longer n = go (suc n) n (omega arith)
   where

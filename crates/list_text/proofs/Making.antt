@@ -1,4 +1,4 @@
--- A line is made from its end: one byte, and the bytes of a list or a number one by one, in front of what is there.
+-- A line is made from its end: a byte, and the bytes of a list or a number one by one, go in front of what is there.
 use Prim.Native.Nat.{ℕ, suc, _+_, _-_, _/_, _≤_, _<_, min}
 use native.Mathlib.Omega.{arith}
 use mathlib.Core.Path.{_≡_, sym, ap, _∙_}
@@ -15,7 +15,7 @@ stored l start b p h =
     let e : suc (start - 1) ≡ start = omega arith in
     stored-at l (start - 1) b (omega arith) ∙ ap (λ (n : ℕ). b ∷ drop n l) e
 
--- one element more of s, of which the elements from k on are there
+-- one more element of s, of which the elements from k on are there
 pub one-before : (s : List ℕ) (k z : ℕ) (rest t u : List ℕ) → 0 < k → k ≤ length s
     → t ≡ drop k s ++ rest → u ≡ getD s (k - 1) z ∷ t → u ≡ drop (k - 1) s ++ rest
 one-before s k z rest t u p h e f =
@@ -30,7 +30,7 @@ clouds-length blocks p h = simp (length-map, length-take, h)
 pub cloud-at : (blocks k : ℕ) (p : List ℕ) → k < blocks → getD (map digit (take blocks p)) k (digit 0) ≡ digit (getD p k 0)
 cloud-at blocks k p h = List·getD-map digit (take blocks p) k 0 ∙ ap digit (getD-take blocks p k 0 h)
 
--- the last digit of n goes first, and a tenth of n is left
+-- the last digit of n is stored first, and n / 10 is left
 pub digit-before : (n : ℕ) (t u : List ℕ) → 10 ≤ n → u ≡ digit n ∷ t → decimal n ++ t ≡ decimal (n / 10) ++ u
 digit-before n t u h e =
     ap (λ l. l ++ t) (large n h) ∙ append-snoc (decimal (n / 10)) (digit n) t ∙ ap (λ l. decimal (n / 10) ++ l) (sym e)

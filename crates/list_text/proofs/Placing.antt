@@ -1,4 +1,4 @@
--- A line that was copied whole into a buffer, one that does not fit, and one line behind the other.
+-- A line that was copied whole into a buffer, one that does not fit, and one line after the other.
 use Prim.Native.Nat.{ℕ, _+_, _≤_, _<_}
 use native.Mathlib.Numerals.{add-one}
 use mathlib.Core.Path.{_≡_, refl, sym, ap, _∙_}
@@ -9,7 +9,7 @@ use borrow.Author.Tests.{le-leb, lt-leb}
 use Rattle.list_text.specs.Lines.{placed, placedEnd}
 use Rattle.list_text.proofs.Writing.{written-front}
 
--- one byte more of the text that stands in an array from `start` on
+-- one more byte of the text that is in an array from `start` on
 pub copied : (bytes buffer b : List ℕ) (start at k : ℕ) → at + k < length buffer → k < length (drop start bytes)
     → b ≡ paste buffer at (drop start bytes) k → set b (at + k) (getD bytes (start + k) 0) ≡ paste buffer at (drop start bytes) (k + 1)
 copied bytes buffer b start at k room inside e =
@@ -29,6 +29,6 @@ module _ (line buffer : List ℕ) (at : ℕ) where
   pub none : length buffer < at + length line → (at ≡ placedEnd line buffer at) × (buffer ≡ placed line buffer at)
   none h = simp (lt-leb _ _ h) (refl, refl)
 
-  -- for one line behind the other: what stands below the new offset is what stood below the old one, and the line
+  -- for one line after the other: what is below the new offset is what was below the old one, and then the line
   pub so-far : at + length line ≤ length buffer → take (placedEnd line buffer at) (placed line buffer at) ≡ take at buffer ++ line
   so-far h = simp (le-leb _ _ h) (written-front line buffer at h)

@@ -1,4 +1,4 @@
--- The lines of many rows: how long a line is, of which parts it is, and that the lines of rows one behind the other are those of all.
+-- The lines of many rows: how long a line is, what its parts are, and that the lines of rows one after the other are those of all.
 use Prim.Native.Nat.{ℕ, zero, suc, _+_, _*_, _/_, _%_, _≤_, _<_, _^_}
 use native.Mathlib.Omega.{arith}
 use mathlib.Core.Path.{_≡_, refl, sym, ap, _∙_}
@@ -13,7 +13,7 @@ use Rattle.list_text.specs.RowLines.{wordsOfRow, bytesOfLine, wordsLine,
 use Rattle.list_text.specs.Statements.{RowLines}
 use Rattle.list_text.proofs.Decimals.{fit-words}
 
--- one cloud more, behind those of an eighth of the number
+-- one more cloud, after those of an eighth of the number
 pub last-cloud : (n p : ℕ) → map digit (clouds (suc n) p) ≡ map digit (clouds n (p / 8)) ++ ((48 + p % 8) ∷ [])
 last-cloud n p =
     let e : digit (p % 8) ≡ 48 + p % 8 = omega arith in
@@ -22,7 +22,7 @@ last-cloud n p =
 pub clouds-size : (n p : ℕ) → length (map digit (clouds n p)) ≡ n
 clouds-size n p = length-map (clouds n p) digit ∙ digits-length n p
 
--- the line of a row's words is that of the row that they pack
+-- the line of a row's words is the line of the row that they pack
 pub words-line : (blocks cost place storage transfer cpu : ℕ)
     → wordsLine blocks cost place storage transfer cpu ≡ rowLine cost (clouds blocks place) blocks storage transfer cpu
 unfolding wordsLine
@@ -57,11 +57,11 @@ row-lines = record {
       record { some = omega arith; few = omega arith });
 }
 
--- the words of one row more
+-- the words of one more row
 abbrev rowAnd : ℕ → ℕ
 rowAnd n = suc (suc (suc (suc (suc n))))
 
--- the lines of the first i words are those of the first j, and of the k words behind these
+-- the lines of the first i words are those of the first j and of the k words after these
 abbrev Apart : (b i j k : ℕ) (l : List ℕ) → Type 0
 Apart b i j k l = linesOf b (take i l) ≡ linesOf b (take j l) ++ linesOf b (take k (drop j l))
 
@@ -78,7 +78,7 @@ row-before b i j k h (cost ∷ place ∷ storage ∷ transfer ∷ cpu ∷ l) =
     let line = wordsLine b cost place storage transfer cpu in
     ap (λ s. line ++ s) (h l) ∙ sym (append-assoc line (linesOf b (take j l)) (linesOf b (take k (drop j l))))
 
--- the lines of m rows, and of n behind them
+-- the lines of m rows, and of n more after them
 pub taken-apart : (b m n : ℕ) (l : List ℕ)
     → linesOf b (take ((m + n) * wordsOfRow) l)
     ≡ linesOf b (take (m * wordsOfRow) l) ++ linesOf b (take (n * wordsOfRow) (drop (m * wordsOfRow) l))
@@ -105,13 +105,13 @@ one-row b words i h =
     let w₄ = next-word words (i + 4) (i + 5) h (omega arith) in
     rw (w₀, w₁, w₂, w₃, w₄) (append-nil (lineAt b words i))
 
--- one row more
+-- one more row
 pub next-row : (b : ℕ) (words : List ℕ) (row : ℕ) → row * wordsOfRow + 4 < length words
     → linesOf b (take ((row + 1) * wordsOfRow) words) ≡ linesOf b (take (row * wordsOfRow) words) ++ lineAt b words (row * wordsOfRow)
 next-row b words row room =
     taken-apart b row 1 words ∙ ap (λ l. linesOf b (take (row * wordsOfRow) words) ++ l) (one-row b words (row * wordsOfRow) room)
 
--- a line has no more bytes than it can have, and so have many
+-- a line has at most `bytesOfLine` bytes, and many lines as many times that
 pub line-few : (b : ℕ) (words : List ℕ) (i : ℕ) → b ≤ 16 → ((k : ℕ) → getD words k 0 < 2 ^ 64) → length (lineAt b words i) ≤ bytesOfLine
 line-few b words i h w = row-lines .line b _ _ _ _ _ h (w i) (w (i + 2)) (w (i + 3)) (w (i + 4)) .few
 

@@ -1,4 +1,4 @@
--- Bytes that are written into a buffer: a text behind a text, a byte behind a text, and a text from its last byte to its first.
+-- Bytes written into a buffer: a text after a text, a byte after a text, and a text from its last byte to its first.
 use Prim.Native.Nat.{ℕ, suc, _+_, _≤_, _<_}
 use native.Mathlib.Nat.{add-zero}
 use native.Mathlib.Numerals.{add-one}
@@ -9,7 +9,7 @@ use lib.ListN.{length, take, drop, set, length-append, length-drop, length-set, 
 use lib.Seq.{set-split, take-at, drop-at, drop-drop, length-take-le, append-snoc, take-set-le}
 use Rattle.list_text.specs.Lines.{written}
 
--- a byte stored, and what stands behind it
+-- a byte stored, and what is after it
 pub stored-at : (l : List ℕ) (i b : ℕ) → i < length l → drop i (set l i b) ≡ b ∷ drop (suc i) l
 stored-at l i b h = ap (drop i) (set-split l i b h) ∙ drop-at (take i l) _ i (length-take-le i l (omega arith))
 
@@ -29,7 +29,7 @@ module _ (text buffer : List ℕ) (at : ℕ) (room : at + length text ≤ length
   written-back : drop (at + length text) (written text buffer at) ≡ drop (at + length text) buffer
   written-back = drop-at (take at buffer ++ text) (drop (at + length text) buffer) (at + length text) front-length
 
-  -- a text behind the text
+  -- a text after the text
   behind : (more : List ℕ) → written more (written text buffer at) (at + length text) ≡ written (text ++ more) buffer at
   behind more =
       let n = at + length text in
@@ -44,12 +44,12 @@ one-byte buffer i b h =
     set-split buffer i b h ∙ sym (append-snoc (take i buffer) b (drop (suc i) buffer))
     ∙ ap (λ (n : ℕ). take i buffer ++ (b ∷ []) ++ drop n buffer) (sym (add-one i))
 
--- the same of a buffer into which the first text was written before
+-- the same for a buffer into which the first text was written already
 pub then-text : (text first buffer : List ℕ) (at i : ℕ) → buffer ≡ written text first at → i ≡ at + length text
     → (more : List ℕ) → i ≤ length first → written more buffer i ≡ written (text ++ more) first at
 then-text text first buffer at i e here more room = ap₂ (written more) e here ∙ behind text first at (omega arith) more
 
--- A text stands in the buffer from `at` up to `end`, where the next one can go.
+-- A text is in the buffer from `at` up to `end`, where the next one can go.
 pub record Put (text first buffer : List ℕ) (at end : ℕ) : Type 0 where
   pub ends : end ≡ at + length text
   pub bytes : buffer ≡ written text first at
@@ -67,7 +67,7 @@ module _ {text first buffer : List ℕ} {at end : ℕ} (p : Put text first buffe
       let l : length buffer ≡ length first = ap length (p .bytes) ∙ written-length text first at (omega (arith, p .ends)) in
       then-put (b ∷ []) (omega arith) refl (one-byte buffer end b (omega arith))
 
--- A text is written from its last byte to its first: `rest` is still to be written, and the bytes behind it stand where they belong.
+-- A text is written from its last byte to its first: `rest` is still to be written, and the bytes after it are in their places.
 pub record Filling (text rest first buffer : List ℕ) (at : ℕ) : Type 0 where
   pub back : rest ++ drop (at + length rest) buffer ≡ text ++ drop (at + length text) first
   pub front : take at buffer ≡ take at first
@@ -76,7 +76,7 @@ pub record Filling (text rest first buffer : List ℕ) (at : ℕ) : Type 0 where
 pub begun : (text buffer : List ℕ) (at : ℕ) → Filling text text buffer buffer at
 begun text buffer at = record { back = refl; front = refl; size = refl }
 
--- one byte more, the last of the rest
+-- one more byte, the last of the rest
 pub filled-more : {text rest first buffer : List ℕ} {at : ℕ} (shorter : List ℕ) (i b : ℕ) → Filling text rest first buffer at
     → rest ≡ shorter ++ (b ∷ []) → i ≡ at + length shorter → i < length buffer → Filling text shorter first (set buffer i b) at
 filled-more {text} {rest} {first} {buffer} {at} shorter i b f e here room =

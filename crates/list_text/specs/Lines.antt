@@ -13,11 +13,11 @@ abbrev pub ascii : String → List ℕ
 ascii Strings.[] = []
 ascii (Strings._∷_ c s) = code c ∷ ascii s
 
--- the byte of a number's last digit; of a cloud's number, which is below 8, the byte of the number itself
+-- the byte of a number's last digit; for a cloud's number, which is below 8, this is the digit of the number itself
 abbrev pub digit : ℕ → ℕ
 digit k = 48 + k % 10
 
--- the digits of n, in at most so many places: its last digit, behind those of a tenth of n
+-- the digits of n, in at most `places` places: those of n / 10, and then its last digit
 unfoldable pub digits : ℕ → ℕ → List ℕ
 digits zero n = []
 digits (suc places) n = elim (ltb n 10) [ true ↦ digit n ∷ [] | false ↦ digits places (n / 10) ++ (digit n ∷ []) ]
@@ -26,11 +26,11 @@ digits (suc places) n = elim (ltb n 10) [ true ↦ digit n ∷ [] | false ↦ di
 unfoldable pub decimal : ℕ → List ℕ
 decimal n = digits (suc n) n
 
--- an amount behind other text
+-- an amount after other text
 abbrev pub amountText : ℕ → List ℕ
 amountText n = ascii " " ++ decimal n
 
--- a row: its cost, the cloud of each block, and what storage, transfers and computing come to
+-- a row: its cost, the cloud of each block, and the amounts for storage, transfers and computing
 abbrev pub rowLine : (cost : ℕ) (placement : List ℕ) (blocks storage transfer cpu : ℕ) → List ℕ
 rowLine cost placement blocks storage transfer cpu =
     decimal cost ++ ascii " " ++ map digit (take blocks placement) ++ amountText storage ++ amountText transfer ++ amountText cpu ++ ascii "\n"
@@ -50,7 +50,7 @@ fits line buffer at = leb (at + length line) (length buffer)
 abbrev pub written : List ℕ → List ℕ → ℕ → List ℕ
 written text buffer at = take at buffer ++ text ++ drop (at + length text) buffer
 
--- The buffer after a line was put into it at `at`, and the offset behind the line. A line that does not fit changes nothing, and
+-- The buffer after a line was put into it at `at`, and the offset after the line. A line that does not fit changes nothing, and
 -- the offset stays.
 abbrev pub placed : List ℕ → List ℕ → ℕ → List ℕ
 placed line buffer at = cond (fits line buffer at) (written line buffer at) buffer

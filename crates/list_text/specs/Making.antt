@@ -1,4 +1,4 @@
--- A line in the making: its text stands at the end of the array.
+-- A line in the making: its text is at the end of the array.
 use Prim.Native.Nat.{ℕ}
 use mathlib.Core.List.{List}
 use lib.ListN.{drop}

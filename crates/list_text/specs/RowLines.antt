@@ -1,5 +1,5 @@
--- The lines of many rows at once. A row is five words: its cost, the clouds of its blocks packed into one number, and what storage,
--- transfers and computing come to.
+-- The lines of many rows at once. A row is five words: its cost, the clouds of its blocks packed into one number, and the amounts for
+-- storage, transfers and computing.
 use Prim.Native.Nat.{ℕ, _*_, _/_, min}
 use mathlib.Core.List.{List, [], _∷_, _++_, map}
 use lib.ListN.{length, take}
@@ -21,7 +21,7 @@ wordsLine blocks cost place storage transfer cpu = rowLine cost (clouds blocks p
 unfoldable pub frontText : (blocks cost place : ℕ) → List ℕ
 frontText blocks cost place = decimal cost ++ ascii " " ++ map digit (clouds blocks place)
 
--- the lines of the rows that a list of words has, one behind the other; fewer than five words are no row
+-- the lines of the rows in a list of words, one after the other; fewer than five words are no row
 abbrev pub linesOf : (blocks : ℕ) → List ℕ → List ℕ
 linesOf blocks [] = []
 linesOf blocks (cost ∷ []) = []
@@ -30,7 +30,7 @@ linesOf blocks (cost ∷ place ∷ storage ∷ []) = []
 linesOf blocks (cost ∷ place ∷ storage ∷ transfer ∷ []) = []
 linesOf blocks (cost ∷ place ∷ storage ∷ transfer ∷ cpu ∷ words) = wordsLine blocks cost place storage transfer cpu ++ linesOf blocks words
 
--- how many of the rows surely go into the buffer
+-- how many of the rows are sure to fit into the buffer
 abbrev pub fitting : (words buffer : List ℕ) → ℕ
 fitting words buffer = min (length words / wordsOfRow) (length buffer / bytesOfLine)
 

@@ -70,7 +70,7 @@ fn word_before(word: [u8; 8], line: Line) -> Line
     longer
 }
 
-// The line at an offset of the buffer, where it fits. The answer is the offset behind it, or the same offset where it does not fit.
+// Copies the line to an offset of the buffer, if it fits. The answer is the offset after it, or the same offset if it does not fit.
 fn put(line: Line, buffer: &mut [u8], at: usize) -> usize
     requires { ⌜ line .start ≤ 64 ⌝ }
     ensures { λ r. ⌜ r ≡ placedEnd (text line) (now (buffer .entry)) at ⌝ }
@@ -92,8 +92,8 @@ fn put(line: Line, buffer: &mut [u8], at: usize) -> usize
     at + size
 }
 
-// Each of these puts one line into the buffer from offset `at` on, and answers the offset behind it. Where the line does not fit,
-// nothing is written and the answer is `at`; no line is empty, so the answer tells the two apart. Each takes any arguments, and says how much room is
+// Each of these puts one line into the buffer from offset `at` on, and answers the offset after it. If the line does not fit, nothing is
+// written and the answer is `at`; no line is empty, so the answer shows which it was. Each takes any arguments, and says how much room is
 // always enough.
 
 pub fn put_options(count: u64, buffer: &mut [u8], at: usize) -> usize

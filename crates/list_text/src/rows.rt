@@ -1,4 +1,4 @@
-// The lines of many rows at once, written where they stand: each byte goes to its own offset of the buffer, and is not moved again.
+// The lines of many rows at once, written in place: each byte goes to its own offset of the buffer, and is not moved again.
 ghost use mathlib.Core.Path.{_≡_};
 ghost use mathlib.Core.List.{map};
 ghost use Prim.Native.Nat.{_+_, _≤_, min};
@@ -27,7 +27,7 @@ fn places(n: u64) -> usize
     count
 }
 
-// The digits of a number from offset `at` on. Division gives the last one first, so it has to be known how many there are.
+// Writes the digits of a number from offset `at` on. Division gives the last one first, so their number must be known.
 fn put_digits(n: u64, count: usize, buffer: &mut [u8], at: usize)
     requires { ⌜ (count ≡ length (decimal n)) × (at + count ≤ length (now buffer)) ⌝ }
     ensures { λ _. ⌜ now (buffer .exit) ≡ written (decimal n) (now (buffer .entry)) at ⌝ }
@@ -42,7 +42,7 @@ fn put_digits(n: u64, count: usize, buffer: &mut [u8], at: usize)
     buffer[at] = last_digit(left);
 }
 
-// The clouds of a placement from offset `at` on, the last first: it is the packed number's last digit to the base 8.
+// Writes the clouds of a placement from offset `at` on, the last first: it is the packed number's last digit to the base 8.
 fn put_clouds(place: u64, blocks: usize, buffer: &mut [u8], at: usize)
     requires { ⌜ at + blocks ≤ length (now buffer) ⌝ }
     ensures { λ _. ⌜ now (buffer .exit) ≡ written (map digit (clouds blocks place)) (now (buffer .entry)) at ⌝ }
@@ -56,7 +56,7 @@ fn put_clouds(place: u64, blocks: usize, buffer: &mut [u8], at: usize)
     }
 }
 
-// Each of these puts a part of a line, or all of it, from offset `at` on, and answers the offset behind it.
+// Each of these puts a part of a line, or all of it, from offset `at` on, and answers the offset after it.
 
 pub fn put_number(n: u64, buffer: &mut [u8], at: usize) -> usize
     requires { ⌜ at + length (decimal n) ≤ length (now buffer) ⌝ }
@@ -123,9 +123,9 @@ fn smaller(m: usize, n: usize) -> usize
     if m < n { m } else { n }
 }
 
-// Row k is the five words from 5k on: its cost, its placement as a packed number, and what storage, transfers and computing come to. The lines
-// of the rows go to the start of the buffer, as many as surely fit at LINE_BYTES a line, and what stands behind them stays. The answer is the
-// offset behind the last line. It takes any arguments: fewer than five words at the end are no row, and above 16 blocks there are no more digits.
+// Row k is the five words from 5k on: its cost, its placement as a packed number, and the amounts for storage, transfers and computing. The
+// lines of the rows go to the start of the buffer, as many as are sure to fit at LINE_BYTES a line; what is after them stays. The answer is the
+// offset after the last line. It takes any arguments: fewer than five words at the end are no row, and no row has more than 16 digits for blocks.
 pub fn put_rows(words: &[u64], blocks: usize, buffer: &mut [u8]) -> usize
     ensures { λ r. ⌜ r ≡ length (rowsText (now (words .entry)) blocks (now (buffer .entry))) ⌝ }
     ensures { λ r. ⌜ now (buffer .exit) ≡ written (rowsText (now (words .entry)) blocks (now (buffer .entry))) (now (buffer .entry)) 0 ⌝ }

@@ -9,7 +9,7 @@ use Rattle.description.specs.Declarations.{Description}
 use Rattle.costs.specs.Cost.{cost}
 use Rattle.survey.specs.declared.Row.{Row}
 use Rattle.survey.specs.declared.Cursor.{Cursor}
-use Rattle.survey.specs.Rows.{earlier, rowOf, rows, later, draw}
+use Rattle.survey.specs.Rows.{earlier, rowOf, rows, later}
 use Rattle.survey.proofs.RowOrder.{placement-order}
 use Rattle.survey.proofs.Drawing.{standing, standing-once, rows-sorted, draw-finds}
 use Rattle.lister.specs.DrawsListEveryRow.{past, atStart, answers}

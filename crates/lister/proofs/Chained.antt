@@ -1,4 +1,4 @@
--- The answers of a chain's links, in their order, are the answers that `draws-list-every-row` speaks of.
+-- The answers of a chain's links, in their order, are the answers in `draws-list-every-row`.
 use Prim.Native.Nat.{ℕ, zero, suc}
 use mathlib.Core.Path.{_≡_, refl, sym, ap, _∙_}
 use mathlib.Core.List.{List, _∷_, _++_, map}
@@ -30,6 +30,6 @@ pub chain-results : (s : List ℕ) (n : ℕ) → results s n ≡ map (answerAt s
 unfolding results cursorAfter
 chain-results s n = chained-from s 0 n
 
--- of an accepted description: the rows in their order, each once, and then finished
+-- for an accepted description: the rows in their order, each once, and then finished
 pub chain-rows : (s : List ℕ) (d : Description) → read s ≡ ok d → (n : ℕ) → map (answerAt s) (below n) ≡ map ok (take n (map some (rows d) ++ replicate n none))
 chain-rows s d accepted n = sym (chain-results s n) ∙ draws-list-every-row s d accepted .called n

@@ -1,5 +1,5 @@
--- The scope's item 3, of every accepted description: `specs/DrawsListEveryRow.antt`. What draws answer is in `Answering`; which placements
--- stand for their options, and the counts, are laws of the survey below.
+-- The scope's item 3, for every accepted description: `specs/DrawsListEveryRow.antt`. What draws answer is in `Answering`; which placements
+-- represent their options, and the counts, are laws of `survey`.
 use Prim.Native.Nat.{ℕ}
 use mathlib.Core.Path.{_≡_, refl, sym, ap, _∙_}
 use mathlib.Core.Logic.{_↔_, inl, inr}
@@ -38,7 +38,7 @@ module _ (s : List ℕ) (d : Description) (accepted : read s ≡ ok d) where
   unfolding censusCall
   census-called = rw accepted refl
 
-  -- so draws in a row by the call give the answers, and refuse none
+  -- so draws in a row by the call give the answers, and none is refused
   results-rows : (n : ℕ) → results s n ≡ map ok (take n (map some (rows d) ++ replicate n none))
   unfolding results answers
   results-rows n =
@@ -55,7 +55,7 @@ module _ (s : List ℕ) (d : Description) (accepted : read s ≡ ok d) where
 
   -- ---- the rows
 
-  -- the secure placements are those that Judge says are secure
+  -- the secure placements are those that Judge calls secure
   secure-are : (p : List ℕ) → List·Memᴰ p (securePlacements d) ↔ SecurePlacement d p
   secure-are p =
       let members = secure-members d p in
@@ -67,7 +67,7 @@ module _ (s : List ℕ) (d : Description) (accepted : read s ≡ ok d) where
   row-secure : (r : Row) → List·Memᴰ r (rows d) → SecurePlacement d (r .placement)
   row-secure r m = let (p, i, t, e) = rows-standing d r .0 m in rw (← e) (secure-are p .0 i)
 
-  -- each secure placement has its row: that of the placement that stands for its option
+  -- each secure placement has its row: that of the placement that represents its option
   row-for : (p : List ℕ) → SecurePlacement d p → (r : Row) × RowFor d p r
   row-for p secure =
       let m = secure-are p .1 secure in

@@ -1,4 +1,4 @@
--- The table of `specs/Interview.antt`: by computation from the bytes, and where there are many candidates by the law that counts them.
+-- The table of `specs/Interview.antt`: by computation from the bytes, and if there are many candidates, by the law that counts them.
 use Prim.Native.Nat.{ℕ}
 use mathlib.Core.Path.{_≡_, refl, ap}
 use Rattle.description.specs.Declarations.{Description}

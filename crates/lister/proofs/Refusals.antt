@@ -1,4 +1,4 @@
--- Census and Draw refuse as Read does.
+-- Census and Draw refuse what Read refuses.
 use Prim.Native.Nat.{ℕ}
 use mathlib.Core.List.{List}
 use Rattle.decoding.specs.Bytes.{decidingBytes}

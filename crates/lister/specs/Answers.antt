@@ -1,4 +1,4 @@
--- The answers of Census and Draw: for every case the scope's number and values.
+-- The answers of Census and Draw: the scope's number and values for every case.
 use mathlib.Core.Option.{Option, none, some}
 use Rattle.survey.specs.declared.Row.{Row}
 use Rattle.survey.specs.Answers.{figuresOf, zeroRow, rowOr}
@@ -24,7 +24,7 @@ answerOf (Refused r) row = refused (r .number) (r .place)
 abbrev pub drawAnswer : Drawn → Result (Option Row)
 drawAnswer a = answerOf (a .answer) (a .row)
 
--- where the answer is no row, the row beside it is all zeros
+-- if the answer is no row, the row beside it is all zeros
 abbrev pub rowBeside : Result (Option Row) → Row
 rowBeside (ok answer) = rowOr answer
 rowBeside (refused number place) = zeroRow

@@ -1,4 +1,4 @@
--- The calls Census and Draw: each takes the description's bytes and first gives what Read refuses.
+-- The calls Census and Draw: each takes the description's bytes, and refuses first what Read refuses.
 use Prim.Native.Nat.{ℕ}
 use mathlib.Core.List.{List}
 use mathlib.Core.Option.{Option}
@@ -11,6 +11,6 @@ use Rattle.sequences.specs.Results.{Result, ok, andThen}
 unfoldable pub censusCall : List ℕ → Result Census
 censusCall s = andThen (read s) (λ d. ok (census d))
 
--- none: finished
+-- none means finished
 unfoldable pub drawCall : List ℕ → Cursor → Result (Option Row)
 drawCall s c = andThen (read s) (λ d. ok (draw d c))

@@ -11,7 +11,7 @@ use Rattle.lister.specs.DrawsListEveryRow.{atStart, movedBy}
 use Rattle.lister.specs.declared.chain.Link.{Link}
 use Rattle.sequences.specs.Results.{Result}
 
--- the start; later where the draw before led
+-- the start for the first draw; for a later one, the cursor that the draw before it led to
 unfoldable pub cursorAfter : List ℕ → ℕ → Cursor
 cursorAfter s zero = atStart
 cursorAfter s (suc k) = movedBy (cursorAfter s k) (drawCall s (cursorAfter s k))
@@ -19,6 +19,6 @@ cursorAfter s (suc k) = movedBy (cursorAfter s k) (drawCall s (cursorAfter s k))
 unfoldable pub answerAt : List ℕ → ℕ → Result (Option Row)
 answerAt s k = drawCall s (cursorAfter s k)
 
--- a link made from the cursor c is a link of the chain: if c is draw k's cursor, it holds draw k's answer and the cursor of the next
+-- a link made from the cursor c belongs to the chain: if c is the cursor of draw k, it holds the answer of draw k and the cursor of the next
 abbrev pub InChain : List ℕ → Cursor → Link → Type 0
 InChain s c r = (k : ℕ) → c ≡ cursorAfter s k → (drawAnswer (r .drawn) ≡ answerAt s k) × (r .next ≡ cursorAfter s (suc k))

@@ -1,4 +1,4 @@
--- The scope's item 3, of an accepted description: draws list every row. What draws in a row answer, what the rows are, and what the census
+-- The scope's item 3, for an accepted description: draws list every row. What draws in a row answer, what the rows are, and what the census
 -- says of them.
 use Prim.Native.Nat.{ℕ, _+_}
 use mathlib.Core.Path.{_≡_}
@@ -28,13 +28,13 @@ atStart = record { start = true; cost = 0; placement = replicate 16 0 }
 abbrev pub past : Row → Cursor
 past r = record { start = false; cost = r .cost; placement = r .placement }
 
--- The answers of n draws. The first has the start for its cursor, and each later one the last row answered, or the start if there is
--- none yet. None: finished.
+-- The answers of n draws. The cursor of the first is the start; that of each later one is the last row answered, or the start if there is
+-- none yet. None means finished.
 unfoldable pub answers : Description → ℕ → List (Option Row)
 answers d n = chained (draw d) (moved past) atStart n
 
 -- The same by the call, on the description's bytes: what n draws in a row give, each a value or a refusal. A refusal leaves the cursor
--- as it was.
+-- unchanged.
 abbrev pub movedBy : Cursor → Result (Option Row) → Cursor
 movedBy c (ok answer) = moved past c answer
 movedBy c (refused number place) = c
@@ -44,7 +44,7 @@ results s n = chained (drawCall s) movedBy atStart n
 
 -- ---- the statement
 
--- a secure placement, in Judge's word: sixteen numbers of which it says so
+-- a secure placement, by Judge's answer: sixteen numbers that it calls secure
 pub record SecurePlacement (d : Description) (p : List ℕ) : Type 0 where
   pub size : length p ≡ 16
   pub judged : judge d p ≡ ok tt
@@ -57,7 +57,7 @@ pub record RowFor (d : Description) (p : List ℕ) (r : Row) : Type 0 where
   pub only : (t : Row) → List·Memᴰ t (rows d) → sameOption d p (t .placement) ≡ true → t ≡ r
   pub earliest : (p ≡ r .placement) ⊎ (earlier r (rowOf d p) ≡ true)
 
--- s are the bytes that are accepted, and d is what they describe
+-- s are the accepted bytes, and d is what they describe
 pub record DrawsListEveryRow (s : List ℕ) (d : Description) : Type 0 where
   -- n draws by the call give the first n rows; if there are fewer rows, all of them and then finished each time. None is refused.
   pub called : (n : ℕ) → results s n ≡ map ok (take n (map some (rows d) ++ replicate n none))
@@ -70,9 +70,9 @@ pub record DrawsListEveryRow (s : List ℕ) (d : Description) : Type 0 where
   pub costs : (r : Row) → List·Memᴰ r (rows d) → (r .bill ≡ billOf d (r .placement)) × (r .cost ≡ total (r .bill))
   -- every secure placement is the same option as exactly one row's, and is that placement or strictly later than it
   pub represented : (p : List ℕ) → SecurePlacement d p → (r : Row) × RowFor d p r
-  -- the first answer is finished exactly when no placement is secure
+  -- the first answer is finished exactly if no placement is secure
   pub finished : (drawCall s atStart ≡ ok none) ↔ ((p : List ℕ) → SecurePlacement d p → ⊥)
-  -- Census answers these counts: as many options as there are rows, and the candidates parted in four
+  -- Census answers these counts: as many options as there are rows, and the candidates split into four kinds
   pub counted : censusCall s ≡ ok (census d)
   pub options : length (rows d) ≡ census d .options
   pub parted : census d .candidates ≡ census d .breaking16 + census d .breaking17only + census d .apartonly + census d .secure

@@ -1,4 +1,4 @@
--- Document 01's "The interview file": description M, and the table of the eleven cases, each stated of the bytes.
+-- The scope's "interview file": description M, and the table of the eleven cases, each stated for the bytes.
 use Prim.Native.Nat.{ℕ}
 use mathlib.Core.Path.{_≡_}
 use mathlib.Core.Bool.{true}
@@ -35,7 +35,7 @@ homeless = cloud 0 ++ datum 1 ++ end
 abbrev pub accepted : (clouds blocks edges : ℕ) → Result Counts
 accepted clouds blocks edges = ok (record { clouds = clouds; blocks = blocks; edges = edges })
 
--- how many candidates there are, where the description is not refused
+-- how many candidates there are, if the description is not refused
 abbrev pub candidatesOf : Result Description → Result ℕ
 candidatesOf r = andThen r (λ d. ok (length (candidates d)))
 

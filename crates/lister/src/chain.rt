@@ -1,4 +1,4 @@
-// Draws one after another: each from the row that the one before it answered.
+// Draws in a row: each from the row that the one before it answered.
 ghost use mathlib.Core.Path.{_≡_};
 ghost use Rattle.lister.specs.Answers.{drawAnswer, rowBeside};
 ghost use Rattle.lister.specs.Calls.{drawCall};
@@ -50,7 +50,7 @@ fn next_cursor(cursor: Cursor, drawn: Drawn) -> Cursor
     }
 }
 
-// The next draw. From the cursor of the chain's draw k on, it answers what that draw answers, and gives the cursor of draw k + 1.
+// The next draw. From the cursor of the chain's draw k it answers what that draw answers, and gives the cursor of draw k + 1.
 pub fn advance(description: &[u8], cursor: Cursor) -> Link
     ensures { λ r. ⌜ drawAnswer (r .drawn) ≡ drawCall (now (description .entry)) cursor ⌝ }
     ensures { λ r. ⌜ r .drawn .row ≡ rowBeside (drawCall (now (description .entry)) cursor) ⌝ }

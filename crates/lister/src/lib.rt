@@ -1,4 +1,4 @@
-// Census and Draw: what is counted of a description's placements, and the first row past a cursor.
+// Census and Draw: the counts of a description's placements, and the first row past a cursor.
 ghost use mathlib.Core.Path.{_≡_};
 ghost use Rattle.survey.specs.Answers.{rowIn, zeroRow};
 ghost use Rattle.lister.specs.Answers.{censusAnswer, drawAnswer, rowBeside};
@@ -25,7 +25,7 @@ pub enum Counted {
     Refused(Refusal),
 }
 
-// What a draw answers. A row stands beside the answer, since an enum holds no array.
+// What a draw answers. The row is beside the answer, since an enum holds no array.
 pub enum Answer {
     Found,
     Finished,

@@ -1,4 +1,4 @@
--- What the program writes is what is printed: the pages of the rows that List leaves are their lines, one behind the other, and with the last
+-- What the program writes is what is printed: the pages of the rows that List leaves are their lines, one after the other, and with the last
 -- line they are `printed`.
 use Prim.Native.Nat.{ℕ, zero, suc, _+_, _-_, _*_, _/_, _≤_, _<_, min}
 use native.Mathlib.Decide.{decLt}
@@ -23,7 +23,7 @@ use Rattle.survey.proofs.RowsInWords.{rows-few, words-row}
 use Rattle.whole_list.specs.WholeList.{rowWords, listed, needed, capacity, listCall, rowsAfter}
 use Rattle.whole_list.proofs.Answers.{call-goes, rows-go, fitting as rowsFit, fits-room}
 use Rattle.whole_list.proofs.Sorted.{listed-words, listed-length}
-use Rattle.list_text.specs.Lines.{ascii, digit, decimal, amountText, rowLine, optionsLine, refusalLine, written}
+use Rattle.list_text.specs.Lines.{ascii, digit, decimal, amountText, rowLine, optionsLine, written}
 use Rattle.list_text.specs.RowLines.{wordsLine, linesOf, rowsText}
 use Rattle.list_text.proofs.RowLines.{words-line, taken-apart}
 use Rattle.listoptions.specs.Printed.{rowLines, printedFor, printed}
@@ -40,7 +40,7 @@ no-row b (u ∷ v ∷ w ∷ []) h = refl
 no-row b (u ∷ v ∷ w ∷ x ∷ []) h = refl
 no-row b (u ∷ v ∷ w ∷ x ∷ y ∷ l) h = absurd (omega arith)
 
--- a page has the lines of as many rows as there are, up to its own number
+-- a page has the lines of as many rows as there are, up to its own number of rows
 up-to : (b m : ℕ) (l : List ℕ) → linesOf b (take (min (length l / 5) m * 5) l) ≡ linesOf b (take (m * 5) l)
 up-to b m l = elim (decLt (length l / 5) m) [
   | yes h ↦
@@ -62,14 +62,14 @@ page-made blocks k words text h =
     let e : length text / 101 ≡ pageRows = omega arith in
     ap (λ (m : ℕ). linesIn blocks (take (min (length l / 5) m * 5) l)) e ∙ up-to (min blocks 16) pageRows l
 
--- one page more
+-- one more page
 pub next-page : (blocks k : ℕ) (words : List ℕ)
     → linesIn blocks (take ((k + 1) * pageRows * 5) words) ≡ linesIn blocks (take (k * pageRows * 5) words) ++ pageText blocks words k
 next-page blocks k words =
     let e : (k + 1) * pageRows * 5 ≡ (k * pageRows + pageRows) * 5 = omega arith in
     ap (λ (n : ℕ). linesIn blocks (take n words)) e ∙ taken-apart (min blocks 16) (k * pageRows) pageRows words
 
--- THE PAGES TOGETHER ARE THE LINES of all rows, where there are enough of them
+-- THE PAGES TOGETHER ARE THE LINES of all rows, if there are enough of them
 pages-from : (blocks k n : ℕ) (words : List ℕ)
     → joined (map (pageText blocks words) (from k n)) ≡ linesIn blocks (take (n * pageRows * 5) (drop (k * pageRows * 5) words))
 pages-from blocks k zero words = refl
@@ -94,7 +94,7 @@ lineOf n r = rowLine (r .cost) (r .placement) n (r .bill .storage) (r .bill .tra
 abbrev keyLine : Description → (n : ℕ) → Row → List ℕ
 keyLine d n r = wordsLine n (rowKey d r .0) (rowKey d r .1) (r .bill .storage) (r .bill .transfer) (r .bill .cpu)
 
--- the words of rows make the lines of the rows, where each row's words make its own
+-- the words of rows make the lines of the rows, if each row's words make its own line
 lines-of-rows : (d : Description) (n : ℕ) (rs : List Row) → ((r : Row) → List·Memᴰ r rs → keyLine d n r ≡ lineOf n r)
     → linesOf n (joined (map (rowWords d) rs)) ≡ rowLines n rs
 lines-of-rows d n [] h = refl
@@ -104,7 +104,7 @@ module _ (d : Description) (a : Admitted d) where
   abbrev n : ℕ
   n = length (d .blocks)
 
-  -- the blocks of a row are the clouds that its second word packs
+  -- the blocks of a row are the clouds packed in its second word
   row-line : (r : Row) → List·Memᴰ r (rows d) → keyLine d n r ≡ lineOf n r
   row-line r m =
       let packed = clouds n (rowKey d r .1) in
@@ -126,11 +126,11 @@ module _ (d : Description) (a : Admitted d) where
 abbrev pub heldRows : ℕ
 heldRows = capacity heldWords heldKeys
 
--- the words of the rows that are printed, of what List answers and leaves
+-- the words of the rows that are printed, from what List answers and leaves
 abbrev pub printedWords : Result (ℕ × ℕ) → List ℕ → List ℕ
 printedWords answer after = take (rowsOf answer * 5) after
 
--- the rows that are printed are words that the call was lent
+-- the rows that are printed are within the words that the call was lent
 pub rows-within : (s : List ℕ) (a : Result (ℕ × ℕ)) → a ≡ listCall s heldRows → rowsOf a ≤ heldRows
 rows-within s (ok e) h = fits-room s heldRows e (sym h)
 rows-within s (refused number place) h = omega arith
@@ -164,7 +164,7 @@ pages-printed s words n bytes h =
     let after = printedWords answer (rowsAfter s heldRows words) in
     ap (λ l. l ++ lastLine answer) (pages-lines (blocksOf answer) n after h) ∙ lines-printed s words bytes
 
--- the same of what List answered and left
+-- the same for what List answered and left
 pub all-lines : (s words : List ℕ) → Bytes s → {answer : Result (ℕ × ℕ)} {after : List ℕ} {n blocks : ℕ}
     → answer ≡ listCall s heldRows → after ≡ rowsAfter s heldRows words → n ≡ rowsOf answer → blocks ≡ blocksOf answer
     → linesIn blocks (take (n * 5) after) ++ lastLine answer ≡ printed s
@@ -174,14 +174,14 @@ all-lines s words bytes {answer} {after} e f g h =
 
 -- ---- what is handed over next
 
--- behind a front stands the part that follows it
+-- after a front comes the part that follows it
 pub next-bytes : (front part rest : List ℕ) {text : List ℕ} {done : ℕ} → (front ++ part) ++ rest ≡ text → done ≡ length front
     → NextBytes text done part
 next-bytes front part rest {text} {done} e d =
     let behind = sym (drop-append-seam front (part ++ rest)) ∙ ap (drop (length front)) (sym (append-assoc front part rest) ∙ e) in
     sym (take-append-seam part rest) ∙ ap (take (length part)) (behind ∙ ap (λ n. drop n text) (sym d))
 
--- of pages: page k stands behind the lines of the pages before it
+-- for pages: page k comes after the lines of the pages before it
 pub page-next : (blocks k : ℕ) (words : List ℕ) {text : List ℕ} {done : ℕ} → BeginsWith text (linesIn blocks words)
     → done ≡ length (linesIn blocks (take (k * pageRows * 5) words)) → NextBytes text done (pageText blocks words k)
 page-next blocks k words (rest, e) d =
@@ -203,7 +203,7 @@ front-is text old e h = ap₂ take e h ∙ take-append-seam text (drop (0 + leng
 pub text-within : (text old : List ℕ) {now : List ℕ} {end : ℕ} → end ≡ length text → now ≡ written text old 0 → end ≤ length now
 text-within text old e h = omega (arith, e, ap length h ∙ length-append text (drop (0 + length text) old))
 
--- Of longer input the first `decidingBytes` decide what is printed, so that the program need not read more than its buffer takes.
+-- The first `decidingBytes` of a longer input decide what is printed, so the program need not read more than fits into its buffer.
 pub printed-front : (s : List ℕ) (n : ℕ) → decidingBytes ≤ n → printed (take n s) ≡ printed s
 unfolding printed
 printed-front s n h = ap printedFor (read-front s n h)

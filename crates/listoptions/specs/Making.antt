@@ -1,4 +1,4 @@
--- How the program comes to what it prints: pages of the lines of the rows that List leaves, and a last line for what it answers.
+-- How the program makes what it prints: pages of the lines of the rows that List leaves, and a last line for its answer.
 use Prim.Native.Nat.{ℕ, _*_, min}
 use mathlib.Core.Path.{_≡_}
 use mathlib.Core.Bool.{true}
@@ -40,18 +40,18 @@ linesIn blocks words = linesOf (min blocks 16) words
 abbrev pub pageText : (blocks : ℕ) → List ℕ → (k : ℕ) → List ℕ
 pageText blocks words k = linesIn blocks (take (pageRows * wordsOfRow) (drop (k * pageRows * wordsOfRow) words))
 
--- the number of rows behind them, or why there are none
+-- the line after the rows: their number, or why there are none
 abbrev pub lastLine : Result (ℕ × ℕ) → List ℕ
 lastLine (ok extent) = optionsLine (extent .0)
 lastLine (refused number place) = refusalLine number place
 
--- a text begins with a part; a part is what stands in it behind so many bytes
+-- a text begins with a part; a part is what comes next in it after `done` bytes
 abbrev pub BeginsWith : (text part : List ℕ) → Type 0
 BeginsWith text part = (rest : List ℕ) × (part ++ rest ≡ text)
 
 abbrev pub NextBytes : (text : List ℕ) (done : ℕ) (part : List ℕ) → Type 0
 NextBytes text done part = part ≡ take (length part) (drop done text)
 
--- if standard output took all that it was handed, it was handed as much as the text has
+-- if standard output took all that it was given, it was given as many bytes as the text has
 abbrev pub Whole : Sent → List ℕ → Type 0
 Whole sent text = sent .whole ≡ true → sent .bytes ≡ length text

@@ -12,7 +12,7 @@ use Rattle.survey.specs.Rows.{rows}
 use Rattle.decoding.specs.Inputs.{m, mApart}
 use Rattle.list_text.specs.Lines.{ascii, rowLine, optionsLine, refusalLine}
 
--- the lines of rows, one behind the other
+-- the lines of rows, one after the other
 abbrev pub rowLines : (blocks : ℕ) → List Row → List ℕ
 rowLines blocks [] = []
 rowLines blocks (r ∷ rs) =

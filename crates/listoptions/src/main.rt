@@ -6,7 +6,8 @@ ghost use lib.ListN.{length, take};
 ghost use Rattle.whole_list.specs.WholeList.{listAnswer};
 ghost use Rattle.list_text.specs.Lines.{written};
 ghost use Rattle.list_text.specs.RowLines.{wordsOfRow};
-ghost use Rattle.listoptions.specs.Making.{heldWords, heldKeys, heldBytes, pageRows, rowsOf, blocksOf, lastLine, pageText, linesIn, BeginsWith, NextBytes, Whole};
+ghost use Rattle.listoptions.specs.Making.{heldWords, heldKeys, heldBytes, pageRows, rowsOf, blocksOf, lastLine, pageText};
+ghost use Rattle.listoptions.specs.Making.{linesIn, BeginsWith, NextBytes, Whole};
 ghost use Rattle.listoptions.specs.Printed.{printed};
 use libc::STDOUT_FILENO;
 use list_text::rows::put_rows;
@@ -25,13 +26,13 @@ const PAGE_ROWS: usize = 1024;
 
 const PAGE_BYTES: usize = 103424;
 
-// How many bytes were handed to standard output, and whether it took them all.
+// How many bytes standard output was given, and whether it took them all.
 struct Sent {
     whole: bool,
     bytes: usize,
 }
 
-// How many rows are printed, and how many digits each has: of what is refused there are none.
+// How many rows are printed, and how many digits each has: none for a refusal.
 fn extent_of(listed: Listed) -> Extent
     ensures { λ r. ⌜ (r .rows ≡ rowsOf (listAnswer listed)) × (r .blocks ≡ blocksOf (listAnswer listed)) ⌝ }
 {
@@ -41,7 +42,7 @@ fn extent_of(listed: Listed) -> Extent
     }
 }
 
-// The line behind the rows: how many there are, or why there are none.
+// The line after the rows: how many there are, or why there are none.
 fn put_last(listed: Listed, text: &mut [u8]) -> usize
     requires { ⌜ length (now text) ≡ heldBytes ⌝ }
     ensures { λ r. ⌜ r ≡ length (lastLine (listAnswer listed)) ⌝ }
@@ -63,8 +64,8 @@ fn put_page(rows: &[u64], blocks: usize, page: usize, text: &mut [u8]) -> usize
     put_rows(&rows[first..], blocks, text)
 }
 
-// Hands the front of the text to standard output; nothing else does. Of what was handed over no contract can say anything afterwards, so it
-// asks before: these are the next bytes of what is printed for the description, behind those that it was handed already.
+// Hands the front of the text to standard output; nothing else does. No contract can say afterwards what was handed over, so this one asks
+// before: these are the next bytes of what is printed for the description, after those that were handed over already.
 fn write_next(description: &[u8], sent: Sent, text: &[u8], end: usize) -> Sent
     requires { ⌜ (end ≤ length (now text)) × (length (now text) ≡ heldBytes) × (sent .bytes ≤ 64 * heldBytes) ⌝ }
     requires { ⌜ NextBytes (printed (now description)) (sent .bytes) (take end (now text)) ⌝ }
@@ -124,7 +125,7 @@ fn write_list(description: &[u8], rows: &mut [u64], scratch: &mut [u64], text: &
     write_next(description, sent, text, end)
 }
 
-// A function for each of the large arrays: where one is made in place, its proof compares lists of that length.
+// A separate function for each of the large arrays: if one were made in place, the proof would compare lists of that length.
 fn words() -> [u64; HELD_WORDS]
     ensures { λ r. ⌜ length r ≡ heldWords ⌝ }
 {
@@ -143,7 +144,7 @@ fn bytes() -> [u8; PAGE_BYTES]
     [0; PAGE_BYTES]
 }
 
-// Of longer input the first `decidingBytes` decide (`printed-front`): what does not fit into the buffer need not be read.
+// The first `decidingBytes` of a longer input decide (`printed-front`): what does not fit into the buffer need not be read.
 fn main() {
     let mut space = io::buffer();
     let Input::Bytes(count) = standard_input::read_full(&mut space) else {

@@ -1,8 +1,8 @@
--- On a candidate, the blocks of the pairs' data are declared and stand on declared clouds: so it breaks a pair exactly where two blocks
+-- In a candidate, the blocks of the pairs' data are declared and stand on declared clouds: so it breaks a pair exactly if two blocks
 -- that conflict stand on one cloud.
 use Prim.Native.Nat.{ℕ, _<_}
 use mathlib.Core.Path.{_≡_}
-use mathlib.Core.Logic.{_↔_, Iff·trans, inl, inr}
+use mathlib.Core.Logic.{_↔_, inl, inr}
 use mathlib.Core.Bool.{true}
 use mathlib.Core.List.{List, List·Memᴰ}
 use lib.ListN.{length, getD}

@@ -1,5 +1,5 @@
--- The only data that can move within an option: those with a writer on one cloud and one reader on another, from the one to the other.
--- Only their storage changes, and which end has the copy.
+-- The only data that can move within an option: those with a writer on one cloud and their only reader on another can move from the one
+-- cloud to the other. Only their storage changes, and which end has the copy.
 use Prim.Native.Nat.{ℕ, _+_, _*_, _≤_}
 use native.Mathlib.Omega.{arith}
 use mathlib.Core.Path.{_≡_, refl, sym, ap, _∙_}
@@ -40,7 +40,7 @@ carry d n from to = (cloud d from .outward + cloud d to .inward) * chargedOf (bl
 abbrev copyOn : Description → ℕ → ℕ → ℕ
 copyOn d n k = copyOf (cloud d k) (block d n .kind)
 
--- a stem and a branch of one edge, where the edge's service is on the datum's cloud and where it isn't
+-- the stem and the branch of one edge, if its service is on the datum's cloud and if it is not
 lead-away : (t : Bool) (f : Edge → ℕ) (e : Edge) → map f (cond (not t) (e ∷ []) []) ≡ cond t [] (f e ∷ [])
 lead-away true f e = refl
 lead-away false f e = refl
@@ -49,7 +49,7 @@ tip-away : (t : Bool) (k : ℕ) → cond (not t) (k ∷ []) [] ≡ cond t [] (k 
 tip-away true k = refl
 tip-away false k = refl
 
--- by the clouds of writer and reader in p, in any placement q that has the services on the same clouds
+-- by the clouds of writer and reader in p, for any placement q that has the services on the same clouds
 module _ (d : Description) (w : WellFormed d) (p q : List ℕ) (same : SameServices d q p) (n : ℕ)
     (x y : Edge) (writers : writersOf d n ≡ x ∷ []) (readers : readersOf d n ≡ y ∷ []) where
   writer-is : List·Memᴰ x (d .edges) × (isWrite (x .way) ≡ true) × (x .datum ≡ n)
@@ -103,11 +103,11 @@ module _ (d : Description) (w : WellFormed d) (p q : List ℕ) (same : SameServi
 
 -- ---- the two ends
 
--- a datum's part, whatever its kind's numbers
+-- a datum's part, whatever the numbers of its kind
 abbrev paths : Description → List ℕ → ℕ → List (List ℕ)
 paths d p n = joined (stem d p n) (map (branch p) (readersOf d n))
 
--- one writer and one reader, with n on the cloud of one and k the cloud of the other
+-- one writer and one reader; n is on the cloud of one, and k is the cloud of the other
 record Ends (d : Description) (p : List ℕ) (n k : ℕ) : Type 0 where
   writer : Edge
   reader : Edge
@@ -152,12 +152,12 @@ module _ (d : Description) (w : WellFormed d) where
     ours : SameServices d p p
     ours m s = refl
 
-    -- the stem ends where the datum stands
+    -- the last cloud of the stem is that of the datum
     stems-tell : stem d q n ≡ stem d p n → getD q n 0 ≡ getD p n 0
     stems-tell e =
         snoc-same (map (serviceCloud q) (keep (moves q) (writersOf d n))) (map (serviceCloud p) (keep (moves p) (writersOf d n))) (getD q n 0) (getD p n 0) e .1
 
-    -- where its part is the same on two clouds, these are its two ends
+    -- if its part is the same on two clouds, these are its two ends
     part-moves : (getD p n 0 ≡ getD q n 0 → ⊥) → partOf d q n ≡ partOf d p n → movesTo d p n ≡ some (getD q n 0)
     unfolding movesTo
     part-moves other alike = go (writersOf d n) (readersOf d n) refl refl
@@ -196,11 +196,11 @@ module _ (d : Description) (w : WellFormed d) where
         ∙ ap (λ (l : List ℕ). l ∷ []) (end-paths (serviceCloud p x) (serviceCloud p y) (getD p n 0) (getD q n 0) ends)
         ∙ sym (one-part d w p p ours n x y ew er (block d n .kind) is-datum)
 
-    -- The one other cloud on which a datum has the same part is that to which it moves.
+    -- The one other cloud on which a datum has the same part is the one it can move to.
     pub moves-to : (movesTo d p n ≡ some (getD q n 0)) ↔ ((getD p n 0 ≡ getD q n 0 → ⊥) × (partOf d q n ≡ partOf d p n))
     moves-to = (λ e. (moves-away e, moves-part e), λ h. part-moves (h .0) (h .1))
 
-    -- By its shares on both, or by its storage there and the copy on the other end: the order is the same.
+    -- Comparing its shares on both, or its storage there and the copy on the other end, gives the same order.
     pub moves-cost : movesTo d p n ≡ some (getD q n 0) → (ks ls : List ℕ)
         → before (share d q n ∷ ks) (share d p n ∷ ls) ≡ before (keptOn d n (getD q n 0) (getD p n 0) ∷ ks) (keptOn d n (getD p n 0) (getD q n 0) ∷ ls)
     moves-cost e ks ls =

@@ -1,4 +1,4 @@
--- The test by exchanges in the words of its definition, and what it comes to for data that are kept for a month or not at all.
+-- The test by exchanges in the words of its definition, and what it means for data that are kept for a month or not at all.
 use Prim.Native.Nat.{ℕ}
 use native.Mathlib.Nat.{mul-one, mul-zero, zero-add}
 use native.Mathlib.Omega.{arith}
@@ -27,13 +27,13 @@ module _ (d : Description) where
   unfolding standsByExchanges
   stands-by-exchanges p = refl
 
-  -- of a datum that is kept for one month both ends cost the same: the lower cloud wins
+  -- for a datum that is kept for one month both ends cost the same: the lower cloud wins
   pub month-ties : (n size h k : ℕ) → block d n .kind ≡ Datum size 1 → keptOn d n k h ≡ keptOn d n h k
   month-ties n size h k e =
       let g = gigabytes size in
       let there = mul-one g in
       rw (e, there) (omega arith)
 
-  -- of one that is not kept at all the copy alone counts: it wins on the end that is dearer, where it leaves the copy on the other
+  -- for one that is not kept at all only the copy counts: it does better on the dearer end, since its copy is then on the other
   pub unkept-copies : (n size h k : ℕ) → block d n .kind ≡ Datum size 0 → keptOn d n k h ≡ copyOf (cloud d h) (block d n .kind)
   unkept-copies n size h k e = rw e (simp (mul-zero, zero-add))

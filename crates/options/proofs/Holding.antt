@@ -1,5 +1,5 @@
 -- The clouds that hold a datum are those of its stem and branches. So two placements of one option break the same pairs.
-use Prim.Native.Nat.{ℕ, _<_}
+use Prim.Native.Nat.{ℕ}
 use native.Mathlib.Decide.{ℕ-discrete}
 use mathlib.Core.Path.{_≡_, refl, sym, ap, subst, _∙_}
 use mathlib.Core.Logic.{inl, inr}
@@ -27,14 +27,14 @@ use Rattle.sequences.proofs.Agreeing.{member-at, tests-agree}
 use Rattle.sequences.proofs.Members.{keep-members, found-member}
 use Rattle.sequences.proofs.Tests.{both-pass, not-passed}
 
--- the lists of a part, one behind the other: the stem, and then the branches
+-- the lists of a part, one after the other: the stem, and then the branches
 flat-joined : (s : List ℕ) (bs : List (List ℕ)) → flat (joined s bs) ≡ s ++ flat bs
 flat-joined s [] = refl
 flat-joined s (b ∷ []) = append-assoc s b []
 flat-joined s (b ∷ c ∷ bs) = refl
 
 module _ (d : Description) (p : List ℕ) where
-  -- ---- a branch is there where the edge moves its datum
+  -- ---- there is a branch if the edge moves its datum
 
   branch-to : (e : Edge) (k : ℕ) → List·Memᴰ k (branch p e) → serviceCloud p e ≡ k
   branch-to e k m = go (moves p e) m
@@ -62,7 +62,7 @@ module _ (d : Description) (p : List ℕ) where
   ]
 
   module _ (n k : ℕ) where
-    -- the stem and the branches of datum n, one behind the other
+    -- the stem and the branches of datum n, one after the other
     abbrev spread : List ℕ
     spread = stem d p n ++ flat (map (branch p) (readersOf d n))
 
@@ -91,7 +91,7 @@ module _ (d : Description) (p : List ℕ) where
           held e j (both-pass (not (isWrite (e .way))) (eqb (e .datum) n) .0 t .1) at
     ]
 
-    -- the datum's own cloud ends the stem
+    -- the datum's own cloud is the last of the stem
     spread-own : getD p n 0 ≡ k → List·Memᴰ k spread
     spread-own at = Memᴰ·append-left (flat (map (branch p) (readersOf d n)))
         (Memᴰ·append-right (map (serviceCloud p) (keep (moves p) (writersOf d n))) (List·Memᴰ·head (sym at)))
@@ -122,7 +122,7 @@ module _ (d : Description) (p : List ℕ) where
               ]
         ]
 
-    -- A cloud holds a datum exactly where it is in the datum's stem or branches.
+    -- A cloud holds a datum exactly if it is in the datum's stem or branches.
     holds-part : isDatum (block d n .kind) ≡ true → holds d p n k ≡ any (eqb k) (flat (partOf d p n))
     holds-part t =
         tests-agree _ _ (λ h. found-member k spread .1 (spread-from h), λ h. spread-to (found-member k spread .0 h)) ∙

@@ -1,5 +1,5 @@
--- The test by exchanges is the test by shares: a datum that does better elsewhere in its option does so on its other end, where only its
--- storage and the cloud of its copy differ.
+-- The test by exchanges is the test by shares: a datum that does better elsewhere within its option does so on its other end, and there
+-- only its storage and the cloud of its copy differ.
 use Prim.Native.Nat.{ℕ, _<_}
 use mathlib.Core.Path.{_≡_, refl, sym, ap, _∙_}
 use mathlib.Core.Logic.{_↔_, _⊎_}
@@ -26,14 +26,14 @@ use Rattle.sequences.proofs.Agreeing.{tests-agree}
 use Rattle.sequences.proofs.Orders.{before-irreflexive}
 use Rattle.sequences.proofs.Lexicographic.{pair-before}
 
--- what the test of one datum says: it may stand on k, and keeping it there with its copy on h, then k, is lower than the other way, then h
+-- what the test of one datum says: it may stand on k, and keeping it there with its copy on h, then k, is lower than the reverse, then h
 exchange : (d : Description) (n h k : ℕ)
     → (exchanges d n h k ≡ true) ↔ ((mayStand d n k ≡ true) × (before (keptOn d n k h ∷ k ∷ []) (keptOn d n h k ∷ h ∷ []) ≡ true))
 unfolding exchanges
 exchange d n h k = both-pass _ _
 
 module _ (d : Description) (w : WellFormed d) (p : List ℕ) (c : SecureCandidate d p) where
-  -- better anywhere: not on its own cloud, so on the one to which it moves, and cheaper there
+  -- if it is better anywhere: not on its own cloud, so on the one it can move to, and it is cheaper there
   cheaper : (n : ℕ) → List·Memᴰ n (dataOf d) → (k : ℕ) → betterOn d p n k ≡ true → cheaperOn d p n (movesTo d p n) ≡ true
   cheaper n m k t =
       let (may, part, lower) = better-if d p n k .0 t in
@@ -45,7 +45,7 @@ module _ (d : Description) (w : WellFormed d) (p : List ℕ) (c : SecureCandidat
       let stored = sym (moves-cost d w p (set p n k) services n m there (k ∷ []) (getD p n 0 ∷ [])) ∙ lower in
       rw (there, own) (exchange d n (getD p n 0) k .1 (may, rw own at stored))
 
-  -- cheaper where it moves to: better there
+  -- if it is cheaper on the cloud it can move to: it is better there
   better : (n : ℕ) → List·Memᴰ n (dataOf d) → (k : ℕ) → movesTo d p n ≡ some k → cheaperOn d p n (some k) ≡ true → betterOn d p n k ≡ true
   better n m k e t =
       let (may, lower) = exchange d n (getD p n 0) k .0 t in
@@ -77,14 +77,14 @@ module _ (d : Description) (w : WellFormed d) (p : List ℕ) (c : SecureCandidat
       let each = none-members (λ n. cheaperOn d p n (movesTo d p n)) (below (length (d .blocks))) in
       (λ t n h. each .0 (not-true _ t) n (below-members _ n .1 h), λ h. ap not (each .1 (λ n m. h n (below-members _ n .0 m))))
 
-  -- The test by exchanges passes exactly where the test by shares does.
+  -- The test by exchanges passes exactly if the test by shares does.
   pub exchanges-are-local : standsByExchanges d p ≡ standsLocally d p
   exchanges-are-local = tests-agree (standsByExchanges d p) (standsLocally d p) (
     λ s. stands-if d p .1 (λ n m k _. not-passed _ (λ t. true≢false (sym (cheaper n m k t) ∙ exchanges-if .0 s n (data-are d n .0 m .0)))),
     λ s. exchanges-if .1 (local-exchanges s),
   )
 
-  -- They fail exactly where some datum moves down.
+  -- They fail exactly if some datum moves down.
   pub moves-down : (standsLocally d p ≡ false) ↔ ((n : ℕ) × (k : ℕ) × MovesDown d p n k)
   unfolding standsByExchanges
   moves-down = (

@@ -1,5 +1,5 @@
--- Where the services stand on the same clouds, what a datum adds to the option and to the cost depends on its own cloud only; and the
--- cost is the services' computing and one share for each datum.
+-- If the services stand on the same clouds, what a datum adds to the option and to the cost depends only on its own cloud; and the cost
+-- is the services' computing and one share for each datum.
 use Prim.Native.Nat.{ℕ, _+_, _<_}
 use native.Mathlib.Omega.{arith}
 use mathlib.Core.Path.{_≡_, refl, sym, ap, ap₂, _∙_}
@@ -68,7 +68,7 @@ module _ (d : Description) (w : WellFormed d) where
       rw (← at) (data-are d (edge d n .datum) .1 (ltb-true _ _ low, datum))
 
   module _ (p q : List ℕ) (same : SameServices d p q) (n : ℕ) (own : getD p n 0 ≡ getD q n 0) where
-    -- what agrees on edges that stand alike agrees on the edges of datum n
+    -- functions that agree on edges with the same clouds agree on the edges of datum n
     alike : {A : Type 0} (f g : Edge → A) → ((e : Edge) → serviceCloud p e ≡ serviceCloud q e → datumCloud p e ≡ datumCloud q e → f e ≡ g e)
         → (test : Edge → Bool) (e : Edge) → Kept d test n e → f e ≡ g e
     alike f g h test e m =
@@ -86,7 +86,7 @@ module _ (d : Description) (w : WellFormed d) where
     branches-local : map (branch p) (readersOf d n) ≡ map (branch q) (readersOf d n)
     branches-local = map-agree (branch p) (branch q) (readersOf d n) (alike (branch p) (branch q) (branch-alike p q) (λ e. not (writes e)))
 
-    -- The part of a datum, its stem and branches, depends on its own cloud only.
+    -- The part of a datum, its stem and branches, depends only on its own cloud.
     pub part-local : (k : Kind) → part d p n k ≡ part d q n k
     part-local k = go (isDatum k) refl
       where
@@ -124,7 +124,7 @@ cpu-alike b c k h = go (isDatum k) refl
     go true t = datum-computes-nothing b k t ∙ sym (datum-computes-nothing c k t)
     go false f = ap (λ (x : Cloud). cpuOf x k) (h f)
 
--- The computing depends on where the services stand only.
+-- The computing depends only on where the services stand.
 pub cpu-local : (d : Description) (p q : List ℕ) → SameServices d p q → ofBlocks cpuOf d p ≡ ofBlocks cpuOf d q
 cpu-local d p q same = ap sum (map-agree _ _ (below (length (d .blocks)))
     (λ n m. cpu-alike (cloud d (getD p n 0)) (cloud d (getD q n 0)) (block d n .kind)

@@ -1,5 +1,5 @@
--- Rules 16 and 17 go edge by edge, candidates go position by position, and placements of one option break the same pairs. So a
--- block-by-block mix of two secure candidates of one option is a third.
+-- Rules 16 and 17 are tested edge by edge, candidates position by position, and placements of one option break the same pairs. So a
+-- block-by-block mix of two secure candidates of one option is a secure candidate of that option.
 use Prim.Native.Nat.{ℕ, _<_}
 use native.Mathlib.Omega.{arith}
 use mathlib.Core.Path.{_≡_, sym, ap, _∙_}
@@ -26,7 +26,7 @@ use Rattle.sequences.proofs.Tests.{both-pass}
 pub secure-unexposed : (d : Description) (p : List ℕ) → secure d p ≡ true → unexposed d p ≡ true
 secure-unexposed d p safe = both-pass (unexposed d p) (not (brokenApart d p)) .0 safe .0
 
--- what keeps them and is of the option of a secure placement is secure
+-- a placement that keeps them and is of the option of a secure placement is secure
 pub secure-as : (d : Description) → WellFormed d → (q p : List ℕ) → sameOption d q p ≡ true → unexposed d q ≡ true → secure d p ≡ true → secure d q ≡ true
 secure-as d w q p alike keeps safe = both-pass (unexposed d q) (not (brokenApart d q)) .1
     (keeps, ap not (option-broken d w q p alike) ∙ both-pass (unexposed d p) (not (brokenApart d p)) .0 safe .1)
@@ -61,12 +61,12 @@ module _ (d : Description) (w : WellFormed d) where
     mix-stands : (n : ℕ) → n < 16 → mayStand d n (getD p n 0) ≡ true → mayStand d n (getD q n 0) ≡ true → mayStand d n (getD r n 0) ≡ true
     mix-stands n h s t = elim (mix .either n h) [ inl e ↦ rw e s | inr e ↦ rw e t ]
 
-    -- a mix of candidates is one
+    -- a mix of candidates is a candidate
     pub mix-candidate : List·Memᴰ p (candidates d) → List·Memᴰ q (candidates d) → List·Memᴰ r (candidates d)
     mix-candidate mp mq = candidates-stand r .1
         (mix .size, λ n h. mix-stands n h (candidates-stand p .0 mp .1 n h) (candidates-stand q .0 mq .1 n h))
 
-    -- where the services stand on the same clouds, a mix of placements that keep rules 16 and 17 keeps them
+    -- if the services stand on the same clouds, a mix of placements that keep rules 16 and 17 keeps them
     mix-unexposed : SameServices d p q → unexposed d p ≡ true → unexposed d q ≡ true → unexposed d r ≡ true
     mix-unexposed same sp sq = unexposed-edges d r .1 (λ e m.
         let sr = mix-services same in

@@ -1,5 +1,5 @@
--- One datum moved alone, to a cloud where it may stand: if the datum's part stays, it is the same option, and a secure candidate stays a
--- secure candidate; and the cost changes by the datum's share.
+-- One datum is moved alone, to a cloud where it may stand: if the datum's part stays the same, so does the option, and a secure candidate
+-- stays one; the cost changes by the datum's share.
 use Prim.Native.Nat.{ℕ, _+_}
 use native.Mathlib.Decide.{ℕ-discrete}
 use native.Mathlib.Omega.{arith}
@@ -30,7 +30,7 @@ module _ (d : Description) (w : WellFormed d) where
     size : length p ≡ 16
     size = candidates-stand d w p .0 (c .candidate) .0
 
-    -- the datum stands there, and the services where they stood
+    -- the datum stands there, and the services are unchanged
     pub moved-own : getD (set p n k) n 0 ≡ k
     moved-own = getD-set-same p n k 0 (omega (arith, size, block-low d w n (data-are d n .0 datum .0)))
 
@@ -47,14 +47,14 @@ module _ (d : Description) (w : WellFormed d) where
       ],
     )
 
-    -- It is of the same option, if the datum's part stays,
+    -- If the datum's part stays the same, the option does,
     pub moved-same : partOf d (set p n k) n ≡ partOf d p n → sameOption d (set p n k) p ≡ true
     moved-same e = same-parts d (set p n k) p .1 (λ m h. elim (ℕ-discrete m n) [
       | yes here ↦ rw here e
       | no other ↦ part-local d w (set p n k) p moved-services m (getD-set-other p n m k 0 other) (block d m .kind)
     ])
 
-    -- and then a secure candidate,
+    -- and then it is a secure candidate,
     pub moved-secure : partOf d (set p n k) n ≡ partOf d p n → SecureCandidate d (set p n k)
     moved-secure e = record {
       candidate = moved-candidate;
@@ -65,7 +65,7 @@ module _ (d : Description) (w : WellFormed d) where
           (c .safe);
     }
 
-    -- at the cost of another share of this datum.
+    -- and in the cost one share of this datum is replaced by another.
     pub moved-cost : cost d (set p n k) + share d p n ≡ cost d p + share d (set p n k) n
     moved-cost = omega (
       arith,

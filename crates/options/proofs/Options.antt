@@ -1,5 +1,5 @@
--- Being the same option is an equivalence: it is equality of options, and that is equality of the blocks' parts, one by one. The
--- same option has every service on the same cloud.
+-- Being the same option is an equivalence: it is equality of options, which is equality of the blocks' parts, one by one. Placements of
+-- one option have every service on the same cloud.
 use Prim.Native.Nat.{ℕ, _<_}
 use mathlib.Core.Path.{_≡_, refl, sym, _∙_}
 use mathlib.Core.Logic.{_↔_, Iff·trans}
@@ -25,12 +25,11 @@ module _ (d : Description) where
   unfolding sameOption
   same-options p q = equalBy-decides (equalBy same) (equalBy-decides same same-decides) (option d p) (option d q)
 
-  -- so it is an equivalence: a placement is the same option as itself; two are both ways round; and two that are the same as a third
-  -- are the same
+  -- so it is an equivalence: reflexive, symmetric and transitive
   pub sameOption-equivalence : Equivalence (sameOption d)
   sameOption-equivalence = alike-by (option d) same-options
 
-  -- it goes by the blocks' parts, one by one
+  -- it is decided by the blocks' parts, one by one
   pub same-parts : (p q : List ℕ) → (sameOption d p q ≡ true) ↔ ((n : ℕ) → n < length (d .blocks) → partOf d p n ≡ partOf d q n)
   unfolding option
   same-parts p q =

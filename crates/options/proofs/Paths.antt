@@ -1,5 +1,5 @@
 -- The path of what stands on cloud o, with one writer on a and one reader on s: a, o and s without repetitions. It is the same on two
--- clouds only where these are a and s. From either the two edges carry at the same cost, and leave a copy on the other.
+-- clouds only if these are a and s. From either end the two edges carry at the same cost, and leave a copy on the other end.
 use Prim.Native.Nat.{ℕ, _+_}
 use native.Mathlib.Decide.{ℕ-discrete}
 use native.Mathlib.Omega.{arith}
@@ -18,7 +18,7 @@ use Rattle.sequences.proofs.Equality.{snoc-same}
 abbrev pub beside : ℕ → ℕ → List ℕ
 beside o a = cond (eqb a o) [] (a ∷ [])
 
--- the path: the stem with its one branch
+-- the path: the stem followed by its one branch
 abbrev pub path : (a s o : ℕ) → List ℕ
 path a s o = (beside o a ++ (o ∷ [])) ++ beside o s
 
@@ -39,7 +39,7 @@ end-apart a s b k e same = let (apart, ends) = other-end a s b k e in elim ends 
   | inr (bs, ka) ↦ apart (sym ka ∙ sym same ∙ bs)
 ]
 
--- what is the same on both ends is the same here and there
+-- what is the same on both ends is the same on b and k
 ends-agree : {A : Type 0} (f : ℕ → A) (a s b k : ℕ) → ((a ≡ s → ⊥) → f s ≡ f a) → otherEnd a s b ≡ some k → f k ≡ f b
 ends-agree f a s b k same e = let (apart, ends) = other-end a s b k e in elim ends [
   | inl (ba, ks) ↦ rw (ba, ks) (same apart)
@@ -73,12 +73,12 @@ path-ends a s b k f e = go (ℕ-discrete s k) (ℕ-discrete s b) (ℕ-discrete a
     go (yes sk) (no sb) (yes ak) (no ab) = let z = rw (eq-eqb s k sk, ne-eqb s b sb, eq-eqb a k ak, ne-eqb a b ab) at sizes in absurd (omega arith)
     go (yes sk) (no sb) (no ak) (no ab) = let z = rw (eq-eqb s k sk, ne-eqb s b sb, ne-eqb a k ak, ne-eqb a b ab) at sizes in absurd (omega arith)
 
--- on both ends there is one transfer from the writer's cloud to the reader's, whatever it costs, and one copy, on the other end
+-- on either end there is one transfer from the writer's cloud to the reader's, whatever it costs, and one copy, on the other end
 module _ (carry : ℕ → ℕ → ℕ) (copy : ℕ → ℕ) where
   abbrev pub carried : (a s o : ℕ) → ℕ
   carried a s o = cond (eqb a o) 0 (carry a o + copy a) + cond (eqb s o) 0 (carry o s + copy s)
 
-  -- where it stands with the writer, where it stands with the reader
+  -- if it stands with the writer; if it stands with the reader
   with-writer : (a s : ℕ) → (a ≡ s → ⊥) → carried a s a ≡ carry a s + copy s
   with-writer a s apart = rw (eq-eqb a a refl, ne-eqb s a (λ z. apart (sym z))) (omega arith)
 

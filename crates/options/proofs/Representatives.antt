@@ -44,7 +44,7 @@ module _ (d : Description) (p : List ℕ) where
         both-pass _ _ .1 (both-pass _ _ .1 (may, equalBy-decides same same-decides (partOf d (set p n k) n) (partOf d p n) .1 alike), lower),
   )
 
-  -- it passes where no datum does better on any of the eight clouds
+  -- it passes exactly if no datum does better on any of the eight clouds
   pub stands-if : (standsLocally d p ≡ true) ↔ ((n : ℕ) → List·Memᴰ n (dataOf d) → (k : ℕ) → k < 8 → betterOn d p n k ≡ false)
   unfolding standsLocally
   stands-if = (
@@ -62,7 +62,7 @@ module _ (d : Description) (w : WellFormed d) where
     services : SameServices d q p
     services = same-services d q p alike
 
-    -- a datum could move to its cloud in q, and would not be lower there
+    -- a datum could move to its cloud in q, and is not lower there
     datum-not-lower : (n : ℕ) → List·Memᴰ n (dataOf d) → (share d p n ≤ share d q n) × (share d p n ≡ share d q n → getD p n 0 ≤ getD q n 0)
     datum-not-lower n m =
         let k = getD q n 0 in
@@ -125,6 +125,6 @@ module _ (d : Description) (w : WellFormed d) where
         | inr (equal, less) ↦ before-rest (cost d q) (cost d p) q p (omega arith) (set-before p n k (omega arith) less)
       ])))
 
-  -- A secure candidate passes the local test exactly where it is the first of its option.
+  -- A secure candidate passes the local test exactly if it is the first of its option.
   pub local-is-global : (p : List ℕ) → SecureCandidate d p → (standsLocally d p ≡ true) ↔ First d p
   local-is-global p cp = (passes-first p cp, first-passes p cp)

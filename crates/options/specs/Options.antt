@@ -18,11 +18,11 @@ writersOf d n = keep (λ e. isWrite (e .way) && eqb (e .datum) n) (d .edges)
 abbrev pub readersOf : Description → ℕ → List Edge
 readersOf d n = keep (λ e. not (isWrite (e .way)) && eqb (e .datum) n) (d .edges)
 
--- Document 01's "stem" of a datum on b: the clouds a, b if its writer stands on a ≠ b, otherwise b alone.
+-- The scope's "stem" of a datum on b: the clouds a, b if its writer stands on a ≠ b, otherwise b alone.
 abbrev pub stem : Description → List ℕ → ℕ → List ℕ
 stem d p n = map (serviceCloud p) (keep (moves p) (writersOf d n)) ++ (getD p n 0 ∷ [])
 
--- Document 01's "branch" of a reader: its cloud if that isn't the datum's, otherwise empty.
+-- The scope's "branch" of a reader: its cloud if that is not the datum's, otherwise empty.
 abbrev pub branch : List ℕ → Edge → List ℕ
 branch p e = cond (moves p e) (serviceCloud p e ∷ []) []
 
@@ -32,7 +32,7 @@ joined s [] = s ∷ []
 joined s (b ∷ []) = (s ++ b) ∷ []
 joined s (b ∷ c ∷ bs) = s ∷ b ∷ c ∷ bs
 
--- what of block n decides the option: a service's cloud; a datum's stem and branches
+-- what block n contributes to the option: a service its cloud; a datum its stem and branches
 abbrev pub part : Description → List ℕ → ℕ → Kind → List (List ℕ)
 part d p n (Service clearance units) = (getD p n 0 ∷ []) ∷ []
 part d p n (Datum size longevity) = joined (stem d p n) (map (branch p) (readersOf d n))
@@ -40,7 +40,7 @@ part d p n (Datum size longevity) = joined (stem d p n) (map (branch p) (readers
 abbrev pub partOf : Description → List ℕ → ℕ → List (List ℕ)
 partOf d p n = part d p n (block d n .kind)
 
--- Document 01's "option": two placements are the same one when every block's part is equal.
+-- The scope's "option" of a placement: two placements have the same one if every block's part is equal.
 unfoldable pub option : Description → List ℕ → List (List (List ℕ))
 option d p = map (partOf d p) (below (length (d .blocks)))
 

@@ -1,4 +1,4 @@
--- Which placement stands for its option, told by one datum at a time; and the words of the laws of options.
+-- Which placement represents its option, decided one datum at a time; and definitions for the laws of options.
 use Prim.Native.Nat.{ℕ, _+_, _<_}
 use mathlib.Core.Path.{_≡_}
 use mathlib.Core.Logic.{_⊎_}
@@ -34,8 +34,8 @@ share d p n = storedOn d n (getD p n 0) + sum (map (edgeCost d p) (edgesOf d n))
 
 -- ---- the test by shares
 
--- Datum n does better on cloud k: it may stand there, moved there alone it keeps its stem and branches, and its share there, then
--- k, is lower than its share, then its cloud.
+-- Datum n does better on cloud k: it may stand there, moving it there alone keeps its stem and branches, and its share there, then k, is
+-- lower than its share, then its cloud.
 unfoldable pub betterOn : Description → List ℕ → ℕ → ℕ → Bool
 betterOn d p n k =
     mayStand d n k && equalBy same (partOf d (set p n k) n) (partOf d p n) &&
@@ -45,9 +45,9 @@ betterOn d p n k =
 unfoldable pub standsLocally : Description → List ℕ → Bool
 standsLocally d p = not (any (λ n. any (betterOn d p n) (below 8)) (dataOf d))
 
--- ---- the same test by what an exchange of two ends changes
+-- ---- the same test, by what an exchange of two ends changes
 
--- of what stands on b, by its writers and readers: where there is one of each, they are the two ends
+-- the other end for what stands on b, if it has one writer and one reader: their clouds are the two ends
 abbrev pub between : List ℕ → ℕ → (writers readers : List Edge) → Option ℕ
 between p b [] readers = none
 between p b (w ∷ v ∷ writers) readers = none
@@ -55,17 +55,17 @@ between p b (w ∷ []) [] = none
 between p b (w ∷ []) (r ∷ s ∷ readers) = none
 between p b (w ∷ []) (r ∷ []) = otherEnd (serviceCloud p w) (serviceCloud p r) b
 
--- The one other cloud on which block n would be in the same option: a datum whose writer stands on one cloud and whose only
--- reader on another, and which stands on one of the two, may have the other. Nothing else can move.
+-- The one other cloud on which block n would be in the same option: if a datum's writer stands on one cloud and its only reader on
+-- another, and the datum stands on one of the two, it may move to the other. Nothing else can move.
 unfoldable pub movesTo : Description → List ℕ → ℕ → Option ℕ
 movesTo d p n = between p (getD p n 0) (writersOf d n) (readersOf d n)
 
--- what keeping datum n on h costs, with a copy of it on k for a month: on whichever end a datum stands, its copy is on the other
+-- what keeping datum n on h costs, with a copy of it on k for a month: a datum on one end has its copy on the other
 abbrev pub keptOn : Description → (n h k : ℕ) → ℕ
 keptOn d n h k = storedOn d n h + copyOf (cloud d k) (block d n .kind)
 
--- Datum n, which stands on h, would do better on k in its option: it may stand there, and what it costs to keep it there with its copy on h, then
--- k, is lower than what it costs to keep it on h with its copy on k, then h.
+-- Datum n, which stands on h, would do better on k within its option: it may stand there, and the cost of keeping it there with its copy on
+-- h, then k, is lower than the cost of keeping it on h with its copy on k, then h.
 unfoldable pub exchanges : Description → (n h k : ℕ) → Bool
 exchanges d n h k = mayStand d n k && before (keptOn d n k h ∷ k ∷ []) (keptOn d n h k ∷ h ∷ [])
 
@@ -73,14 +73,14 @@ abbrev pub cheaperOn : Description → List ℕ → ℕ → Option ℕ → Bool
 cheaperOn d p n none = false
 cheaperOn d p n (some k) = exchanges d n (getD p n 0) k
 
--- no block is cheaper where it can move to
+-- no block would be cheaper on the cloud it can move to
 unfoldable pub standsByExchanges : Description → List ℕ → Bool
 standsByExchanges d p = not (any (λ n. cheaperOn d p n (movesTo d p n)) (below (length (d .blocks))))
 
--- ---- the words of the laws
+-- ---- definitions for the laws
 
--- Block n can move to cloud k in its option, may stand there, and is kept there, with its copy where it stands now, at a lower cost, or at
--- the same cost on a lower cloud.
+-- Block n can move to cloud k within its option, may stand there, and is kept there, with its copy on its present cloud, at a lower cost,
+-- or at the same cost on a lower cloud.
 pub record MovesDown (d : Description) (p : List ℕ) (n k : ℕ) : Type 0 where
   pub declared : n < length (d .blocks)
   pub moves : movesTo d p n ≡ some k

@@ -1,1 +1,1 @@
-// Which placements are one option, and which of them stands for it: definitions and their laws, and no code.
+// Which placements are one option, and which of them represents it: definitions and their laws, and no code.

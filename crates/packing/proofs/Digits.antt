@@ -1,4 +1,4 @@
--- Packing: digits and their number are each other's, a digit by its position, and packed placements are in the order of their lists.
+-- Packing: digits and number determine each other; a digit by its position; packed placements compare as their lists do.
 use Prim.Native.Nat.{ℕ, zero, suc, _+_, _-_, _*_, _/_, _%_, _^_, _≤_, _<_}
 use native.Mathlib.Nat.{le-refl, suc-inj, div-one, mul-assoc, pow-suc, pow-succ', pow-le-pow-right}
 use native.Mathlib.Numerals.{add-one}
@@ -26,7 +26,7 @@ eight (suc n) =
     let e : 3 * suc n ≡ 3 * n + 3 = omega arith in
     rw (e, pow-add 2 (3 * n) 3, pow-suc 8 n, eight n)
 
--- of no blocks there are none
+-- no blocks have no digits
 pub digits-none : (p : ℕ) → digits 0 p ≡ []
 unfolding digits
 digits-none p = refl
@@ -105,7 +105,7 @@ digits-low n p i = elim (decLt i n) [
   | no h ↦ omega (arith, List·getD-eq-default (digits n p) 0 {n = i} (omega (arith, digits-length n p)))
 ]
 
--- so they are with zeros behind them
+-- also with zeros after them
 pub padded-low : (n p m : ℕ) → Low (digits n p ++ replicate m 0)
 padded-low n p m = go (digits n p) (digits-low n p)
   where
@@ -124,7 +124,7 @@ pack-less a b (x ∷ p) [] e l h = absurd (omega arith)
 pack-less a b (x ∷ p) (y ∷ q) e l h =
     pack-less (a * 8 + x) (b * 8 + y) p q (suc-inj e) (λ i. l (suc i)) (omega (arith, l 0))
 
--- zeros behind a number scale it up
+-- zeros after a number scale it up
 pub packFrom-zeros : (a n : ℕ) → packFrom a (replicate n 0) ≡ a * 8 ^ n
 packFrom-zeros a zero = omega arith
 packFrom-zeros a (suc n) =
@@ -163,14 +163,14 @@ packFrom-same a (x ∷ p) (y ∷ q) e l m = elim (ℕ-discrete x y) [
   ]))
 ]
 
--- packed placements are equal where the placements are
+-- packed placements are equal exactly if the placements are
 pub pack-same : (p q : List ℕ) → length p ≡ length q → Low p → Low q → eqb (pack p) (pack q) ≡ same p q
 unfolding pack
 pack-same p q = packFrom-same 0 p q
 
 -- ---- sixteen bytes
 
--- the next element of a list, stored behind those before it
+-- the next element of a list, stored after the earlier ones
 pub fill-next : (l : List ℕ) (b : ℕ) → b < length l → length l ≤ 16
     → set (take b l ++ replicate (16 - b) 0) b (getD l b 0) ≡ take (b + 1) l ++ replicate (16 - (b + 1)) 0
 fill-next l b h k =
@@ -179,6 +179,6 @@ fill-next l b h k =
     ∙ sym (append-assoc (take b l) (getD l b 0 ∷ []) (replicate (16 - (b + 1)) 0))
     ∙ ap (λ x. x ++ replicate (16 - (b + 1)) 0) (sym (ap (λ n. take n l) (add-one b) ∙ take-suc l b 0 h)))
 
--- the same, of one block more than k
+-- the same for one block more than k
 pub digit-below : (k d p : ℕ) → d ≤ k → getD (digits (suc k) p) d 0 ≡ p / 2 ^ (3 * (k - d)) % 8
 digit-below k d p h = let e : suc k - 1 - d ≡ k - d = omega arith in digit (suc k) d p (omega arith) ∙ (rw e refl)

@@ -1,4 +1,4 @@
--- The floor of sixteen bytes: byte after byte is packed while it is below 8; at one that is not, the next number scaled up.
+-- The floor of sixteen bytes: bytes are packed one by one while they are below 8; at one that is not, the next number is scaled up.
 use Prim.Native.Nat.{ℕ, zero, suc, _+_, _-_, _*_, _^_, _≤_, _<_}
 use native.Mathlib.Omega.{arith}
 use native.Mathlib.Decide.{ℕ-discrete, decLt}
@@ -63,13 +63,18 @@ floor-after a m (x ∷ bytes) (k ∷ q) e l = elim (decLt x 8) [
   | yes u ↦ elim (ℕ-discrete x k) [
     | yes f ↦ rw (f, lt-ltb k 8 (l 0)) (simp (le-ltb k k (omega arith), eq-eqb k k refl) (floor-after (a * 8 + k) m bytes q (omega arith) (λ i. l (suc i))))
     | no f ↦ elim (decLt x k) [
-      | yes v ↦ simp (lt-ltb x 8 u, lt-ltb x k v, le-ltb (packFrom (a * 8 + k) q) (floorFrom (a * 8 + x) (length q) bytes) (floor-most (a * 8 + x) (a * 8 + k) bytes q (omega arith)))
-      | no v ↦ simp (lt-ltb x 8 u, le-ltb x k (omega arith), ne-eqb x k f, lt-ltb (packFrom (a * 8 + k) q) (floorFrom (a * 8 + x) (length q) bytes) (floor-above (a * 8 + k) (a * 8 + x) bytes q (λ i. l (suc i)) (omega arith)))
+      | yes v ↦
+          let most = floor-most (a * 8 + x) (a * 8 + k) bytes q (omega arith) in
+          simp (lt-ltb x 8 u, lt-ltb x k v, le-ltb (packFrom (a * 8 + k) q) (floorFrom (a * 8 + x) (length q) bytes) most)
+      | no v ↦
+          let above = floor-above (a * 8 + k) (a * 8 + x) bytes q (λ i. l (suc i)) (omega arith) in
+          let low = lt-ltb (packFrom (a * 8 + k) q) (floorFrom (a * 8 + x) (length q) bytes) above in
+          simp (lt-ltb x 8 u, le-ltb x k (omega arith), ne-eqb x k f, low)
     ]
   ]
 ]
 
--- what `floorFrom` comes to is the floor
+-- `floorFrom` is the floor
 pub floor-is : (bytes : List ℕ) (n : ℕ) → n ≤ 16 → length bytes ≡ 16 → FloorOf bytes n (floorFrom 0 n bytes)
 unfolding pack
 floor-is bytes n h e = record {

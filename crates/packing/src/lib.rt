@@ -1,7 +1,7 @@
 // Placements as numbers: the clouds of the blocks as digits to the base 8, which compare as the placements' bytes do.
 ghost use mathlib.Core.Path.{_≡_};
 ghost use mathlib.Core.List.{_++_};
-ghost use Prim.Native.Nat.{_-_, _^_, _≤_, _<_};
+ghost use Prim.Native.Nat.{_-_, _≤_, _<_};
 ghost use lib.ListN.{getD, replicate};
 ghost use Rattle.packing.specs.Floors.{FloorOf};
 ghost use Rattle.packing.specs.Packing.{digits};
@@ -28,9 +28,8 @@ pub fn unpacked(place: u64, blocks: usize) -> [u8; 16]
     clouds
 }
 
-// Where a walk goes on past a cursor's sixteen bytes.
-// The least packed placement after the bytes, which may be any, or 8 ^ blocks where there is none: at the first byte that is no cloud,
-// no placement with the clouds before it is after the bytes.
+// Where a walk continues past a cursor's sixteen bytes: the least packed placement after them, or 8 ^ blocks if there is none. The bytes
+// may be any: if one is no cloud, no placement with the same clouds before it is after the bytes.
 pub fn floor_place(bytes: [u8; 16], blocks: usize) -> u64
     requires { ⌜ blocks ≤ 16 ⌝ }
     ensures { λ r. ⌜ FloorOf bytes blocks r ⌝ }

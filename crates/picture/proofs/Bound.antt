@@ -1,9 +1,8 @@
--- Every picture of an accepted description and a secure placement fits into `pictureBytes`: blocks and edges have two digits at most, and
+-- Every picture of an accepted description and a secure placement fits into `pictureBytes`: blocks and edges have at most two digits, and
 -- clouds one.
 use Prim.Native.Nat.{ℕ, zero, suc, _+_, _*_, _≤_, _<_}
 use native.Mathlib.Nat.{suc-mul}
 use native.Mathlib.Omega.{arith}
-use mathlib.Core.Path.{_≡_}
 use mathlib.Core.Bool.{Bool, true, false, cond}
 use mathlib.Core.List.{List, []}
 use lib.ListN.{length, getD, length-append}
@@ -47,7 +46,7 @@ either : (test : Bool) (a b : List ℕ) (most : ℕ) → length a ≤ most → l
 either true a b most h k = h
 either false a b most h k = k
 
--- as many texts, each of at most so many bytes
+-- n texts, each of at most `most` bytes
 each-few : (n most : ℕ) (text : ℕ → List ℕ) → ((i : ℕ) → i < n → length (text i) ≤ most) → length (each n text) ≤ n * most
 each-few zero most text h = omega arith
 each-few (suc n) most text h =

@@ -1,4 +1,4 @@
--- The number forecast is the number written: both calls are about the text of one definition.
+-- The forecast number is the number written: both calls use the text of one definition.
 use Prim.Native.Nat.{ℕ, _≤_}
 use mathlib.Core.Path.{_≡_, refl, ap, _∙_}
 use mathlib.Core.Bool.{Bool, true, false, cond}

@@ -1,5 +1,5 @@
 -- Which numbers the two calls refuse with, and how high their places are.
-use Prim.Native.Nat.{ℕ, _≤_}
+use Prim.Native.Nat.{ℕ}
 use native.Mathlib.Omega.{arith}
 use mathlib.Core.Path.{_≡_}
 use mathlib.Core.List.{List}
@@ -7,7 +7,6 @@ use lib.ListN.{length}
 use lib.Dec.{ltb}
 use Rattle.sequences.specs.Results.{ok, refused, RefusalWithin}
 use Rattle.sequences.proofs.Results.{within-more, within-cond, within-andThen}
-use Rattle.decoding.specs.Bytes.{decidingBytes}
 use Rattle.description.specs.Declarations.{Description}
 use Rattle.judging.specs.Calls.{judged}
 use Rattle.judging.proofs.Refusals.{judged-within}

@@ -1,4 +1,4 @@
--- What both calls answer, as an enum: for every case the number and values.
+-- The answer of both calls as an enum: the number and values for every case.
 use Prim.Native.Nat.{ℕ}
 use mathlib.Core.List.{List}
 use lib.ListN.{length}

@@ -1,4 +1,4 @@
--- Pictures stated of the bytes: description M, the interview file, and small inputs with blocks that have no edge.
+-- Pictures stated for the bytes: description M, the interview file, and small inputs with blocks that have no edge.
 use mathlib.Core.Path.{_≡_}
 use mathlib.Core.List.{_++_}
 use Rattle.decoding.specs.Inputs.{cloud, datum, service, reads, end, times, flat, m, mApart, place}
@@ -30,7 +30,7 @@ pub record Interview : Type 0 where
   pub short : pictureCall m (place 1 1 0 0 0) 94 ≡ refused 16 95
   pub first : (pictureCall m (place 1 0 0 0 0) 0 ≡ refused 14 0) × (sizeCall m (place 1 0 0 0 0) ≡ refused 14 0)
   pub apart : (pictureCall mApart (place 1 1 1 1 1) 0 ≡ refused 17 0) × (sizeCall mApart (place 1 1 1 1 1) ≡ refused 17 0)
-  -- blocks without an edge come behind the edges, in block order
+  -- blocks without an edge come after the edges, in block order
   pub alone : pictureCall (times 2 (cloud 0) ++ datum 0 ++ service 0 0 ++ service 0 0 ++ datum 0 ++ reads 1 3 ++ end) (place 1 0 1 0 0) 100 ≡ ok (
       ascii "digraph p {\n" ++
       ascii "  d3_0 -> s1_0;\n" ++

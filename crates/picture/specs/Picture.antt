@@ -37,7 +37,7 @@ copyNode datum cloud n = datumNode datum cloud ++ ascii "_e" ++ decimal n
 abbrev pub arrow : List ℕ
 arrow = ascii " -> "
 
--- The nodes of an edge e, of datum d and service s: in place, or moved. Cloud a is the writer's, b the datum's, c the reader's.
+-- The nodes of an edge e, of datum d and service s, in place or moved. Cloud a is the writer's, b the datum's, c the reader's.
 abbrev pub readInPlace : (d s b : ℕ) → List ℕ
 readInPlace d s b = datumNode d b ++ arrow ++ serviceNode s b
 
@@ -79,11 +79,11 @@ touches b e = eqb (e .service) b || eqb (e .datum) b
 unfoldable pub hasEdge : Description → ℕ → Bool
 hasEdge d b = any (touches b) (d .edges)
 
--- the line of block b, if no edge has shown it
+-- the line of block b, if it has no edge
 unfoldable pub blockLine : Description → List ℕ → ℕ → List ℕ
 blockLine d p b = cond (hasEdge d b) [] (line (node (letterOf (block d b .kind)) b (getD p b 0)))
 
--- the texts of 0, 1 and so on below n, one behind the other
+-- the texts of 0, 1 and so on below n, one after the other
 abbrev pub each : ℕ → (ℕ → List ℕ) → List ℕ
 each zero text = []
 each (suc n) text = each n text ++ text n

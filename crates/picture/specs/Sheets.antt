@@ -1,4 +1,4 @@
--- The room that parts of a picture take at most, in bytes, whatever the words hold: a number of one byte has up to three digits. The
+-- The most room that parts of a picture can take, in bytes, whatever the words hold: a number of one byte has up to three digits. The
 -- picture of an accepted description and a secure placement is shorter (`pictureBytes`).
 use Prim.Native.Nat.{ℕ, _+_, _*_}
 

@@ -35,11 +35,12 @@ fn size(w: &Words, placement: [u8; 16]) -> usize
     draw(w, placement, &mut sheet)
 }
 
-// The text at the front of the buffer, or a refusal with the room that it needs. It is drawn on a sheet of our own first: the buffer is not
-// touched before it is known to be long enough.
+// The text at the front of the buffer, or a refusal with the room that it needs. It is drawn on a separate sheet first: the buffer is not
+// touched until it is known to be long enough.
 fn written(w: &Words, placement: [u8; 16], buffer: &mut [u8]) -> Pictured
     ensures { λ r. ⌜ pictureAnswer r ≡ sizeOf (fitted (length (now (buffer .entry))) (picture (describes (now (w .entry))) placement)) ⌝ }
-    ensures { λ _. ⌜ now (buffer .exit) ≡ bufferAfter (fitted (length (now (buffer .entry))) (picture (describes (now (w .entry))) placement)) (now (buffer .entry)) ⌝ }
+    ensures { λ _. ⌜ now (buffer .exit)
+        ≡ bufferAfter (fitted (length (now (buffer .entry))) (picture (describes (now (w .entry))) placement)) (now (buffer .entry)) ⌝ }
 {
     let mut sheet = [0u8; SHEET_BYTES];
     let count = draw(w, placement, &mut sheet);
@@ -68,7 +69,8 @@ pub fn picture_size(description: &[u8], placement: [u8; 16]) -> Pictured
 // Picture: the text of a secure placement, at the front of the buffer; the answer is how many bytes it has.
 pub fn picture(description: &[u8], placement: [u8; 16], buffer: &mut [u8]) -> Pictured
     ensures { λ r. ⌜ pictureAnswer r ≡ sizeOf (pictureCall (now (description .entry)) placement (length (now (buffer .entry)))) ⌝ }
-    ensures { λ _. ⌜ now (buffer .exit) ≡ bufferAfter (pictureCall (now (description .entry)) placement (length (now (buffer .entry)))) (now (buffer .entry)) ⌝ }
+    ensures { λ _. ⌜ now (buffer .exit)
+        ≡ bufferAfter (pictureCall (now (description .entry)) placement (length (now (buffer .entry)))) (now (buffer .entry)) ⌝ }
 {
     let mut w = [0u32; WORDS];
     let verdict = accept_secure(description, placement, &mut w);

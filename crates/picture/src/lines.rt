@@ -1,4 +1,4 @@
-// The lines of a picture, and the whole of it, put into a sheet from an offset on; the answer is the offset behind what was put.
+// The lines of a picture, and the whole picture, put into a sheet from an offset on; the answer is the offset after what was put.
 ghost use mathlib.Core.Path.{_≡_};
 ghost use mathlib.Core.List.{[], _∷_, _++_};
 ghost use Prim.Native.Nat.{_+_, _≤_};
@@ -185,7 +185,7 @@ fn letter_of(kind: Kind) -> u8
     }
 }
 
-// The line of block b, if no edge has shown it.
+// The line of block b, if it has no edge.
 fn put_block(w: &Words, b: u8, placement: [u8; 16], sheet: &mut [u8], at: usize) -> usize
     requires { ⌜ at + blockRoom ≤ length (now sheet) ⌝ }
     ensures { λ r. ⌜ r ≡ at + length (blockLine (describes (now (w .entry))) placement b) ⌝ }

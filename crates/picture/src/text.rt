@@ -1,4 +1,4 @@
-// Bytes and nodes of a picture. Each function puts its text into the sheet from offset `at` on, and answers the offset behind it.
+// Bytes and nodes of a picture. Each function puts its text into the sheet from offset `at` on, and answers the offset after it.
 ghost use mathlib.Core.Path.{_≡_};
 ghost use mathlib.Core.List.{[], _∷_};
 ghost use Prim.Native.Nat.{_+_, _≤_};

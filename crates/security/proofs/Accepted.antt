@@ -15,7 +15,7 @@ use Rattle.security.specs.Soundness.{sound, read}
 use Rattle.security.specs.Accepted.{Accepted, Admitted}
 use Rattle.security.proofs.Sound.{accepted-keeps}
 
--- what Read accepts was decoded, keeps rules 2 to 4, and has no more candidates than may be
+-- what Read accepts was decoded, keeps rules 2 to 4, and does not have too many candidates
 pub accepted : (s : List ℕ) (d : Description) → read s ≡ ok d → Accepted s d
 unfolding read
 accepted s d r =
@@ -23,7 +23,7 @@ accepted s d r =
     let (r2, r3, r4, few, same) = accepted-keeps e d t in
     subst (Accepted s) same (record { decoded = q; rule2 = r2; rule3 = r3; rule4 = r4; few = few })
 
--- so it is well formed, and, read from bytes, in range and bounded
+-- so it is well formed; and if it was read from bytes, it is in range and bounded
 module _ (s : List ℕ) (d : Description) (r : read s ≡ ok d) where
   pub read-wellFormed : WellFormed d
   read-wellFormed = decoded-wellFormed s d (accepted s d r .decoded)
@@ -34,7 +34,7 @@ module _ (s : List ℕ) (d : Description) (r : read s ≡ ok d) where
   pub read-bounded : Bytes s → Bounded d
   read-bounded h = record { limits = read-wellFormed .limits; inRange = read-inRange h }
 
-  -- so a walk may go over it
+  -- so it can be walked over
   pub read-admitted : Bytes s → Admitted d
   read-admitted h = record { wellFormed = read-wellFormed; inRange = read-inRange h; few = accepted s d r .few }
 

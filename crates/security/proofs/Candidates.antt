@@ -1,4 +1,4 @@
--- The candidates of a description: how many they are, which they are, and that they stand in lexicographic order.
+-- The candidates of a description: how many there are, which they are, and that they are in lexicographic order.
 use Prim.Native.Nat.{ℕ, _≤_, _<_}
 use native.Mathlib.Decide.{decLt}
 use native.Mathlib.Omega.{arith}
@@ -22,7 +22,7 @@ use Rattle.sequences.proofs.Ascending.{keep-ascends, from-ascends}
 use Rattle.sequences.proofs.Choices.{length-sequences, sequences-members, sequences-ascend, sequences-once}
 use Rattle.sequences.proofs.Members.{keep-members, below-members, getD-map}
 
--- the count, for which no list is made, is the candidates' number
+-- the count, which needs no list, is the number of candidates
 pub count-is-length : (d : Description) → length (candidates d) ≡ count d
 unfolding candidates count
 count-is-length d = length-sequences (map (choicesOf d) positions)
@@ -46,7 +46,7 @@ module _ (d : Description) (few : length (d .clouds) ≤ 8) where
       (Iff·trans (keep-members (mayStand d b) (below 8) k)
       (λ (_, t). may-stand d p b .0 t, λ g. (below-members 8 k .1 (low p b g), may-stand d p b .1 g)))
 
-  -- the candidates are the lists of sixteen clouds whose every position is good
+  -- the candidates are the lists of sixteen clouds in which every position is good
   pub candidates-placed : (p : List ℕ) → List·Memᴰ p (candidates d) ↔ ((length p ≡ 16) × Placed d p)
   unfolding candidates
   candidates-placed p = Iff·trans (sequences-members 0 (map (choicesOf d) positions) p) (
@@ -61,7 +61,7 @@ module _ (d : Description) (few : length (d .clouds) ≤ 8) where
     λ (size, never). (size, never-13 d p .0 never),
   )
 
-  -- those that are secure are the lists of sixteen clouds that Judge says are secure
+  -- the secure ones are the lists of sixteen clouds that Judge calls secure
   pub candidates-secure : (p : List ℕ) → (List·Memᴰ p (candidates d) × (secure d p ≡ true)) ↔ ((length p ≡ 16) × (judge d p ≡ ok tt))
   candidates-secure p = (
     λ (m, safe). let (size, placed) = candidates-placed p .0 m in (size, judge-candidate d p .1 (placed, safe)),
@@ -72,7 +72,7 @@ choices-ascend : (d : Description) (c : List ℕ) → List·Memᴰ c (map (choic
 unfolding choicesOf
 choices-ascend d c m = let (b, i, e) = Memᴰ·of-map (choicesOf d) positions m in rw (← e) (keep-ascends ltb (mayStand d b) (below 8) (from-ascends 0 8))
 
--- the candidates stand in lexicographic order
+-- the candidates are in lexicographic order
 pub candidates-ascend : (d : Description) → Ascending before (candidates d)
 unfolding candidates
 candidates-ascend d = sequences-ascend (map (choicesOf d) positions) (choices-ascend d)
@@ -82,7 +82,7 @@ pub candidates-once : (d : Description) → Once (candidates d)
 unfolding candidates
 candidates-once d = sequences-once (map (choicesOf d) positions) (choices-ascend d)
 
--- the candidates are the choices of one cloud for each of the sixteen positions, and a position's clouds those below 8 that it may have
+-- the candidates are the choices of one cloud for each of the sixteen positions; a position's clouds are those below 8 that it may have
 pub candidates-choices : (d : Description) → candidates d ≡ sequences (map (λ b. keep (mayStand d b) (below 8)) positions)
 unfolding candidates choicesOf
 candidates-choices d = refl

@@ -1,4 +1,4 @@
--- Where a block may stand: on declared clouds only, and past the last block on the first alone.
+-- Where a block may stand: only on declared clouds; past the last block only on the first.
 use Prim.Native.Nat.{ℕ, _≤_, _<_}
 use mathlib.Core.Path.{_≡_, ap, _∙_}
 use mathlib.Core.Bool.{true, false, _&&_}
@@ -12,12 +12,12 @@ use Rattle.sequences.proofs.Agreeing.{keep-agree}
 use Rattle.security.specs.Soundness.{blockLabel, pinAllows, cloudCovers, mayStand, choicesOf}
 use Rattle.security.proofs.Standing.{block-stands}
 
--- a cloud that is not declared is not high enough for anything
+-- a cloud that is not declared covers nothing
 pub not-declared : (d : Description) (label k : ℕ) → length (d .clouds) ≤ k → cloudCovers d label k ≡ false
 not-declared d label k l = simp (le-ltb k (length (d .clouds)) l)
 
 module _ (d : Description) (b : ℕ) where
-  -- a block may stand where it is high enough and where its pin allows
+  -- a block may stand where the cloud covers its label and its pin allows it
   pub named-stands : (k : ℕ) → b < length (d .blocks) → mayStand d b k ≡ (cloudCovers d (blockLabel d b) k && pinAllows (block d b .pin) k)
   unfolding mayStand
   named-stands k h = simp (lt-ltb b (length (d .blocks)) h)

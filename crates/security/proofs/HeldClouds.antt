@@ -27,7 +27,7 @@ use Rattle.sequences.proofs.Tests.{cond-ind, both-pass, one-passes, told-by-one
 abbrev standsOn : List ℕ → (n k : ℕ) → Edge → Bool
 standsOn p n k e = eqb (e .datum) n && eqb (serviceCloud p e) k
 
--- a cloud holds a datum where the datum stands there, or a service on one of its edges, whether or not it moves the datum
+-- a cloud holds a datum if the datum stands there, or a service on one of its edges, whether or not the edge moves the datum
 holds-by : (d : Description) (p : List ℕ) (n k : ℕ) → holds d p n k ≡ (eqb (getD p n 0) k || any (standsOn p n k) (d .edges))
 holds-by d p n k = tests-agree _ _ (
   λ t.
@@ -61,7 +61,7 @@ module _ (a : List ℕ) (c : ℕ) (size : length a ≡ 8) where
     | no high ↦ simp (le-ltb c 8 (omega arith), ne-eqb c k (λ e. omega arith))
   ]
 
--- of the datum and the first i edges, all clouds are marked
+-- all clouds of the datum and of the first i edges are marked
 pub record Held (d : Description) (p : List ℕ) (n : ℕ) (a : List ℕ) (i : ℕ) : Type 0 where
   pub size : length a ≡ 8
   pub entry : (k : ℕ) → k < 8 → getD a k 0 ≡ cond (eqb (getD p n 0) k || any (standsOn p n k) (take i (d .edges))) 1 0
@@ -130,7 +130,7 @@ module _ (d : Description) (p : List ℕ) (n : ℕ) where
   held-at : (k : ℕ) → k < 8 → eqb (getD (heldBy d p n) k 0) 1 ≡ holds d p n k
   held-at k h = ap (λ (x : ℕ). eqb x 1) (held-entry k h) ∙ told-by-one (holds d p n k)
 
--- marks in both say that a cloud holds both data of a pair
+-- marks in both mean that a cloud holds both data of a pair
 pub both-held : (d : Description) (p : List ℕ) (a : Pair) (k : ℕ) {left right : List ℕ} → k < 8 → left ≡ heldBy d p (a .left) → right ≡ heldBy d p (a .right)
     → (eqb (getD left k 0) 1 && eqb (getD right k 0) 1) ≡ holdsBoth d p a k
 unfolding holdsBoth

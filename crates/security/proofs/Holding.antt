@@ -1,5 +1,5 @@
 -- Which clouds hold a datum: those of the datum and of the services on its edges, whether or not an edge moves it. So a pair is broken
--- exactly where two of their blocks, one for each datum, stand on one cloud.
+-- exactly if two of these blocks, one for each datum, stand on one cloud.
 use Prim.Native.Nat.{ℕ, _<_}
 use native.Mathlib.Decide.{ℕ-discrete}
 use mathlib.Core.Path.{_≡_, refl, sym, ap, ap₂, _∙_}
@@ -39,7 +39,7 @@ holder-if d n u = (
   ]),
 )
 
--- by the pairs, one by one
+-- pair by pair
 pub conflicts-are : (d : Description) (u v : ℕ) → conflicts d u v ≡ any (conflictBy d u v) (d .pairs)
 unfolding conflicts
 conflicts-are d u v = refl
@@ -62,7 +62,7 @@ module _ (d : Description) (p : List ℕ) where
     abbrev pub BlockOn : Type 0
     BlockOn = (u : ℕ) × (isHolder d n u ≡ true) × (getD p u 0 ≡ k)
 
-    -- an edge of the datum whose service stands on k, and the datum does not
+    -- an edge of the datum whose service stands on k while the datum does not
     copied : (e : Edge) → e .datum ≡ n → (getD p n 0 ≡ k → ⊥) → serviceCloud p e ≡ k → copies p n k e ≡ true
     unfolding copies moves
     copied e here away at = both-pass _ _ .1 (
@@ -102,12 +102,12 @@ module _ (d : Description) (p : List ℕ) where
       | inr (e, m, here, by) ↦ holds-copy e m here (ap (λ b. getD p b 0) by ∙ at)
     ]
 
-    -- Cloud k holds datum n exactly where one of the datum's blocks stands there.
+    -- Cloud k holds datum n exactly if one of the datum's blocks stands there.
     pub holds-if : (holds d p n k ≡ true) ↔ BlockOn
     holds-if = (holds-to, holds-from)
 
   module _ (a : Pair) (declared : (u : ℕ) → isHolder d (a .left) u ≡ true → getD p u 0 < length (d .clouds)) where
-    -- A pair is broken exactly where a block of the one datum and a block of the other stand on one cloud.
+    -- A pair is broken exactly if a block of the one datum and a block of the other stand on one cloud.
     together-if : (together d p a ≡ true) ↔
         ((u v : ℕ) × (isHolder d (a .left) u ≡ true) × (isHolder d (a .right) v ≡ true) × (getD p u 0 ≡ getD p v 0))
     unfolding together holdsBoth
@@ -129,7 +129,7 @@ module _ (d : Description) (p : List ℕ) where
   abbrev pub OnClouds : Type 0
   OnClouds = (a : Pair) → List·Memᴰ a (d .pairs) → (u : ℕ) → isHolder d (a .left) u ≡ true → getD p u 0 < length (d .clouds)
 
-  -- Some pair is broken exactly where two blocks that conflict stand on one cloud.
+  -- Some pair is broken exactly if two blocks that conflict stand on one cloud.
   pub broken-if : OnClouds → (brokenApart d p ≡ true) ↔ ((u v : ℕ) × (conflicts d u v ≡ true) × (getD p u 0 ≡ getD p v 0))
   unfolding brokenApart
   broken-if declared = (
@@ -142,7 +142,7 @@ module _ (d : Description) (p : List ℕ) where
         any-members (together d p) (d .pairs) .1 (a, i, together-if a (declared a i) .1 (u, v, m, n, same)),
   )
 
--- Where in two placements the same clouds hold the data of the pairs, they break the same pairs.
+-- If the same clouds hold the data of the pairs in two placements, the placements break the same pairs.
 pub same-broken : (d : Description) (p q : List ℕ)
     → ((a : Pair) → List·Memᴰ a (d .pairs) → (k : ℕ) → (holds d p (a .left) k ≡ holds d q (a .left) k) × (holds d p (a .right) k ≡ holds d q (a .right) k))
     → brokenApart d p ≡ brokenApart d q

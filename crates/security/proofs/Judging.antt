@@ -11,7 +11,7 @@ use Rattle.description.specs.declared.workflow.Way.the-variants.{Reads, Writes}
 use Rattle.description.specs.Declarations.{Description}
 use Rattle.security.specs.Soundness.{positions}
 use Rattle.security.specs.Placements.{badPosition, breaks16, breaks17, together, judge, secure, broken16, broken17, brokenApart}
-use Rattle.security.specs.Statements.{Good, Placed, AllKeep, FirstBreaks, AllApart, FirstMeets, Secure}
+use Rattle.security.specs.Statements.{Good, Placed, AllKeep, FirstBreaks, FirstMeets, Secure}
 use Rattle.security.proofs.Deciding.{none-bad, first-bad, none-breaks, first-breaks}
 use Rattle.security.proofs.Meeting.{none-meet, first-meets}
 use Rattle.sequences.specs.Lists.{any, first}
@@ -44,7 +44,7 @@ module _ (d : Description) (p : List ℕ) where
   abbrev from14 : Result (Unit {0})
   from14 = unless first16 14 from15
 
-  -- each rule is looked for after those before it were kept
+  -- each rule is looked for only if those before it are kept
   tells-15 : (n : ℕ) → bad ≡ none → first16 ≡ none → first17 ≡ some n → judge d p ≡ refused 15 n
   unfolding judge
   tells-15 n none13 none14 found = rw (none13, none14, found) refl
@@ -53,7 +53,7 @@ module _ (d : Description) (p : List ℕ) where
   unfolding judge
   tells-14 n none13 found = rw (none13, found) refl
 
-  -- by the four searches
+  -- in terms of the four searches
   secure-if : (judge d p ≡ ok tt) ↔ ((bad ≡ none) × (first16 ≡ none) × (first17 ≡ none) × (firstPair ≡ none))
   unfolding judge
   secure-if = (
@@ -109,7 +109,7 @@ module _ (d : Description) (p : List ℕ) where
     λ (none13, none14, none15, found). rw (none13, none14, none15, found) refl,
   )
 
-  -- Judge's value says secure exactly where the placement is, by the rules.
+  -- Judge says secure exactly if the placement is secure by the rules.
   pub judge-secure : (judge d p ≡ ok tt) ↔ Secure d p
   unfolding breaks16 breaks17
   judge-secure = (
@@ -125,7 +125,7 @@ module _ (d : Description) (p : List ℕ) where
         (none-bad d p .1 (s .placed), none-breaks Reads d p .1 (s .rule16), none-breaks Writes d p .1 (s .rule17), none-meet d p .1 (s .apart)),
   )
 
-  -- By the tests of a candidate: no position is bad, and it passes `secure`.
+  -- In terms of the tests of a candidate: no position is bad, and it passes `secure`.
   pub judge-candidate : (judge d p ≡ ok tt) ↔ (Placed d p × (secure d p ≡ true))
   unfolding brokenApart
   judge-candidate = (
@@ -146,8 +146,8 @@ module _ (d : Description) (p : List ℕ) where
         ),
   )
 
-  -- Where no position is bad, Judge's number is 14 for what breaks rule 16, else 15 for what breaks rule 17, else 17 for
-  -- what breaks a pair, else 0: it is secure.
+  -- If no position is bad, Judge's number is 14 if rule 16 is broken, otherwise 15 if rule 17 is broken, otherwise 17 if a pair is
+  -- broken, otherwise 0: it is secure.
   pub judge-number : Placed d p → numberOf (judge d p) ≡ cond (broken16 d p) 14 (cond (broken17 d p) 15 (cond (brokenApart d p) 17 0))
   unfolding judge brokenApart
   judge-number placed = rw (none-bad d p .1 placed) (go first16 first17 firstPair refl refl refl)
@@ -172,12 +172,12 @@ module _ (d : Description) (p : List ℕ) where
   pub judge-13 : (b : ℕ) → (judge d p ≡ refused 13 b) ↔ ((b < 16) × (Good d p b → ⊥) × ((i : ℕ) → i < b → Good d p i))
   judge-13 b = Iff·trans (refused13-if b) (first-bad d p b)
 
-  -- 14 where no position is bad, at the first edge that breaks rule 16.
+  -- 14 if no position is bad, at the first edge that breaks rule 16.
   pub judge-14 : (n : ℕ) → (judge d p ≡ refused 14 n) ↔ (Placed d p × FirstBreaks Reads d p n)
   unfolding breaks16
   judge-14 n = Iff·trans (refused14-if n) (Iff·and (none-bad d p) (first-breaks Reads d p n))
 
-  -- 15 where no position is bad and every edge keeps rule 16, at the first edge that breaks rule 17.
+  -- 15 if no position is bad and every edge keeps rule 16, at the first edge that breaks rule 17.
   pub judge-15 : (n : ℕ) → (judge d p ≡ refused 15 n) ↔ (Placed d p × AllKeep Reads d p × FirstBreaks Writes d p n)
   unfolding breaks16 breaks17
   judge-15 n = Iff·trans (refused15-if n) (
@@ -185,7 +185,7 @@ module _ (d : Description) (p : List ℕ) where
     λ (placed, keep16, broken). (none-bad d p .1 placed, none-breaks Reads d p .1 keep16, first-breaks Writes d p n .1 broken),
   )
 
-  -- 17 where no position is bad and every edge keeps rules 16 and 17, at the first pair whose data meet.
+  -- 17 if no position is bad and every edge keeps rules 16 and 17, at the first pair whose data meet.
   pub judge-17 : (n : ℕ) → (judge d p ≡ refused 17 n) ↔ (Placed d p × AllKeep Reads d p × AllKeep Writes d p × FirstMeets d p n)
   unfolding breaks16 breaks17
   judge-17 n = Iff·trans (refused17-if n) (
@@ -195,7 +195,7 @@ module _ (d : Description) (p : List ℕ) where
         (none-bad d p .1 placed, none-breaks Reads d p .1 keep16, none-breaks Writes d p .1 keep17, first-meets d p n .1 broken),
   )
 
-  -- A placement that never gets 13 is one whose every position is good.
+  -- A placement never gets 13 exactly if every position is good.
   pub never-13 : ((place : ℕ) → judge d p ≡ refused 13 place → ⊥) ↔ Placed d p
   never-13 = (
     λ never. none-bad d p .0 (go bad refl never),

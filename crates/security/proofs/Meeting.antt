@@ -1,4 +1,4 @@
--- The tests of pairs decide what `specs/Statements.antt` says of them with plain equations.
+-- The tests of pairs decide what `specs/Statements.antt` says of pairs in plain equations.
 use Prim.Native.Nat.{ℕ}
 use mathlib.Core.Path.{_≡_, sym, ap, _∙_}
 use mathlib.Core.Logic.{_↔_, inl, inr}
@@ -69,7 +69,7 @@ module _ (d : Description) (p : List ℕ) where
     λ k. first-none (together d p) noPair (d .pairs) .1 (λ n h. parted (pair d n) .1 (k n h)),
   )
 
-  -- the first that is
+  -- the first broken pair
   pub first-meets : (n : ℕ) → (first (together d p) (d .pairs) ≡ some n) ↔ FirstMeets d p n
   first-meets n = (
     λ e.

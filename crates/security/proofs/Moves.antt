@@ -1,5 +1,5 @@
--- Whether an edge moves its datum, exposes the copy, and breaks rule 16 or 17: by its way and by the clouds of its service and its
--- datum, and by nothing else of the placement.
+-- Whether an edge moves its datum, exposes the copy, and breaks rule 16 or 17 depends on its way and on the clouds of its service and its
+-- datum, and on nothing else of the placement.
 use Prim.Native.Nat.{ℕ}
 use mathlib.Core.Path.{_≡_, refl}
 use mathlib.Core.Bool.{true, false, not, _&&_}
@@ -11,24 +11,24 @@ use Rattle.labels.specs.Labels.{covers}
 use Rattle.security.specs.Soundness.{cloudLabel, blockLabel}
 use Rattle.security.specs.Placements.{serviceCloud, datumCloud, moves, exposes, breaks16, breaks17}
 
--- an edge moves its datum where the clouds of its service and its datum differ
+-- an edge moves its datum if the clouds of its service and its datum differ
 pub moves-apart : (p : List ℕ) (e : Edge) → moves p e ≡ not (eqb (serviceCloud p e) (datumCloud p e))
 unfolding moves
 moves-apart p e = refl
 
 module _ (d : Description) (p : List ℕ) (e : Edge) where
-  -- it exposes the copy where they differ and the service's cloud does not cover the datum
+  -- it exposes the copy if they differ and the service's cloud does not cover the datum
   pub exposes-apart : exposes d p e ≡
       (not (eqb (serviceCloud p e) (datumCloud p e)) && not (covers (cloudLabel d (serviceCloud p e)) (blockLabel d (e .datum))))
   unfolding exposes moves
   exposes-apart = refl
 
-  -- a read breaks rule 16 where it exposes the copy, and never rule 17
+  -- a read breaks rule 16 if it exposes the copy, and never rule 17
   pub read-breaks : isWrite (e .way) ≡ false → (breaks16 d p e ≡ exposes d p e) × (breaks17 d p e ≡ false)
   unfolding breaks16 breaks17
   read-breaks reads = (rw reads refl, rw reads refl)
 
-  -- a write breaks rule 17 where it exposes the copy, and never rule 16
+  -- a write breaks rule 17 if it exposes the copy, and never rule 16
   pub write-breaks : isWrite (e .way) ≡ true → (breaks16 d p e ≡ false) × (breaks17 d p e ≡ exposes d p e)
   unfolding breaks16 breaks17
   write-breaks writes = (rw writes refl, rw writes refl)

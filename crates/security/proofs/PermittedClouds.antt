@@ -1,5 +1,5 @@
--- The sixteen bytes of permitted clouds: they are what the rule says of each block and cloud, no others are, and the choices by them are the
--- candidates.
+-- The sixteen bytes of permitted clouds: they are what the rule says of each block and cloud, no other bytes are, and the choices by them
+-- are the candidates.
 use Prim.Native.Nat.{ℕ, _+_, _-_, _^_, _≤_, _<_}
 use native.Mathlib.Nat.{zero-add}
 use native.Mathlib.Decide.{decLt, ℕ-discrete}
@@ -103,7 +103,7 @@ module _ (d : Description) where
       let same : 0 + k ≡ k = omega arith in
       ap (λ m. bit m k) (mask-named b h) ∙ bit-bits (mayStand d b) 0 8 k l ∙ ap (mayStand d b) same
 
-  -- of any cloud: from 8 on none is declared
+  -- for any cloud: from 8 on none is declared
   mask-tells : (b k : ℕ) → b < length (d .blocks) → length (d .clouds) ≤ 8 → (ltb k 8 && bit (maskOf d b) k) ≡ mayStand d b k
   mask-tells b k h few = elim (decLt k 8) [
     | yes low ↦ simp (lt-ltb _ _ low) (mask-stands b k h low)
@@ -127,7 +127,7 @@ module _ (d : Description) where
   unfolding masksOf
   mask-at b h = getD-table 16 (maskOf d) b h
 
-  -- a position by its byte: past the last block 0 alone is good
+  -- a position by its byte: past the last block only 0 is good
   pub byte-tells : (b k : ℕ) → b < 16 → length (d .clouds) ≤ 8
       → cond (namesBlock d b) (ltb k 8 && bit (getD (masksOf d) b 0) k) (eqb k 0) ≡ mayStand d b k
   byte-tells b k h few = elim (decLt b (length (d .blocks))) [
@@ -210,7 +210,7 @@ module _ (d : Description) where
         ap sequences (map-append (choicesOf d) (below n) (from (0 + n) z) ∙ ap (λ l. map (choicesOf d) (below n) ++ l) last) ∙
         sequences-padded z (map (choicesOf d) (below n)))
 
-    -- THE CHOICES BY THE SIXTEEN BYTES ARE THE CANDIDATES, each once and in order; the bits set, multiplied, are their number
+    -- THE CHOICES BY THE SIXTEEN BYTES ARE THE CANDIDATES, each once and in order; the product of the numbers of set bits is their number
     pub masks-choose : Chooses d (masksOf d)
     masks-choose =
         let ms = blockMasks d (masksOf d) in

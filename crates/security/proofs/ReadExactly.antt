@@ -1,5 +1,5 @@
 -- Read gives exactly what the scope's rules say: the description, or the first of refusals 1 to 12. Each search of the definition finds
--- what breaks a plain rule; and as later searches refuse with higher numbers only, a refusal's number tells which search gave it.
+-- what breaks a plain rule. Later searches refuse only with higher numbers, so the number of a refusal says which search gave it.
 use Prim.Native.Nat.{ℕ, _≤_, _<_}
 use native.Mathlib.Omega.{arith}
 use mathlib.Core.Path.{_≡_, refl, sym, ap, subst, _∙_}
@@ -39,8 +39,8 @@ use Rattle.sequences.proofs.Tests.{both-pass, not-failed}
 
 -- ---- a search and a rule
 
--- A test that fails exactly where an element keeps the rule: nothing is found where all keep it, and what is found is the first that
--- breaks it.
+-- A test that fails exactly if an element keeps the rule: nothing is found if all keep it, and what is found is the first that breaks
+-- it.
 module _ {A : Type 0} (test : A → Bool) (default : A) (xs : List A) (rule : ℕ → Type 0)
     (keeps : (i : ℕ) → i < length xs → (test (getD xs i default) ≡ false) ↔ rule i) where
   all-kept : (first test xs ≡ none) ↔ AllKept rule (length xs)
@@ -61,7 +61,7 @@ module _ {A : Type 0} (test : A → Bool) (default : A) (xs : List A) (rule : �
     ),
   )
 
--- an `and` fails exactly where, if its first part passes, its second fails
+-- an `and` fails exactly if its second part fails whenever its first part passes
 implied : {A P : Type 0} (a b : Bool) → (a ≡ true) ↔ A → (b ≡ false) ↔ P → ((a && b) ≡ false) ↔ (A → P)
 implied true b g h = (λ f _. h .0 f, λ k. h .1 (k (g .0 refl)))
 implied false b g h = (λ _ x. absurd (false≢true (g .1 x)), λ _. refl)
@@ -69,7 +69,7 @@ implied false b g h = (λ _ x. absurd (false≢true (g .1 x)), λ _. refl)
 covered : (high low : ℕ) → (not (covers high low) ≡ false) ↔ Covers high low
 covered high low = (λ f. covers-is high low .0 (not-false _ f), λ c. ap not (covers-is high low .1 c))
 
--- The clearance of a block that is a service covers a label: by rule 2's test; and, where the block is a service, by rule 3's.
+-- The clearance of a block, if it is a service, covers a label: by rule 2's test; and by rule 3's, if the block is a service.
 abbrev Clears : Kind → ℕ → Type 0
 Clears kind label = (clearance units : ℕ) → kind ≡ Service clearance units → Covers clearance label
 
@@ -94,7 +94,7 @@ unless-above : {n : ℕ} (found : Option ℕ) (number : ℕ) (r : Result Descrip
 unless-above none number r h a m place e = omega (arith, a m place e)
 unless-above (some q) number r h a m place e = let same : number ≡ m = cc in omega arith
 
--- where what is tried later refuses with higher numbers only, a refusal with this number is this search's
+-- if what is tried later refuses only with higher numbers, a refusal with this number comes from this search
 above-here : (found : Option ℕ) (number place : ℕ) (r : Result Description) → Above number r
     → unless found number r ≡ refused number place → found ≡ some place
 above-here found number place r a = unless-here found number place r (λ e. omega (arith, a number place e))
@@ -183,7 +183,7 @@ module _ (d : Description) (wf : WellFormed d) where
   unfolding breaks2
   keeps2 b h = clears (block d b .kind) (block d b .label)
 
-  -- an edge's service is one, so its clearance is that of its kind
+  -- the service of an edge is a service, so its clearance is that of its kind
   keeps3 : (n : ℕ) → n < length (d .edges) → (breaks3 d (edge d n) ≡ false) ↔ Rule3 d n
   unfolding breaks3
   keeps3 n h =
@@ -213,7 +213,7 @@ module _ (d : Description) (wf : WellFormed d) where
   found4 : (n : ℕ) → (broken4 d ≡ some n) ↔ FirstBroken (Rule4 d) (length (d .edges)) n
   found4 = first-broken (breaks4 d) noEdge (d .edges) (Rule4 d) keeps4
 
-  -- the candidates that the definition lists are a list of them, and no list of them is longer
+  -- the candidates that the definition lists are such a list, and no such list is longer
   listed : Candidates d (candidates d)
   listed = record { once = candidates-once d; each = λ p. candidates-placed d (wf .limits .clouds) p .0 }
 
@@ -230,7 +230,7 @@ module _ (d : Description) (wf : WellFormed d) where
 -- ---- what Read gives
 
 module _ (s : List ℕ) where
-  -- what decoding refuses has a number below 9, and what the rules refuse one above 8
+  -- decoding refuses with numbers below 9, the rules with numbers above 8
   decode-below : (number place : ℕ) → decode s ≡ refused number place → number ≤ 8
   decode-below number place e = subst (RefusalWithin 8 decidingBytes) e (decode-within s) .1
 
@@ -269,7 +269,7 @@ module _ (s : List ℕ) where
     λ (meets, lawful). (decodes-exactly s d .1 meets, lawful),
   )
 
-  -- 1 to 8 where decoding refuses, and as it does.
+  -- 1 to 8 if decoding refuses, and with its number and place.
   pub read-1-8 : (number place : ℕ) → number < 9 → (read s ≡ refused number place) ↔ (decode s ≡ refused number place)
   unfolding read
   read-1-8 number place h = (
@@ -287,7 +287,7 @@ module _ (s : List ℕ) where
     λ (d, e, broken). (d, e, refused9-if d b .1 (found2 d (decoded-wellFormed s d e) b .1 broken)),
   )
 
-  -- 10 where every block keeps rule 2, at the first edge that breaks rule 3.
+  -- 10 if every block keeps rule 2, at the first edge that breaks rule 3.
   pub read-10 : (n : ℕ)
       → (read s ≡ refused 10 n) ↔ ((d : Description) × (decode s ≡ ok d) × Keeps2 d × FirstBroken (Rule3 d) (length (d .edges)) n)
   read-10 n = Iff·trans (by-rules 10 n (omega arith)) (
@@ -300,7 +300,7 @@ module _ (s : List ℕ) where
         (d, e, refused10-if d n .1 (none2 d wf .1 k2, found3 d wf n .1 broken)),
   )
 
-  -- 11 where every block keeps rule 2 and every edge rule 3, at the first edge that breaks rule 4.
+  -- 11 if every block keeps rule 2 and every edge rule 3, at the first edge that breaks rule 4.
   pub read-11 : (n : ℕ)
       → (read s ≡ refused 11 n) ↔ ((d : Description) × (decode s ≡ ok d) × Keeps2 d × Keeps3 d × FirstBroken (Rule4 d) (length (d .edges)) n)
   read-11 n = Iff·trans (by-rules 11 n (omega arith)) (
@@ -313,7 +313,7 @@ module _ (s : List ℕ) where
         (d, e, refused11-if d n .1 (none2 d wf .1 k2, none3 d wf .1 k3, found4 d wf n .1 broken)),
   )
 
-  -- 12, at place 0, where rules 2 to 4 are kept and there are more candidates than may be.
+  -- 12, at place 0, if rules 2 to 4 are kept and there are too many candidates.
   pub read-12 : (place : ℕ) → (read s ≡ refused 12 place)
       ↔ ((place ≡ 0) × ((d : Description) × (decode s ≡ ok d) × Keeps2 d × Keeps3 d × Keeps4 d × Many d))
   read-12 place = Iff·trans (by-rules 12 place (omega arith)) (

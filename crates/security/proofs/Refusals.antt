@@ -21,7 +21,7 @@ use Rattle.security.specs.Soundness.{breaks2, breaks3, breaks4, count, t
 use Rattle.security.specs.Placements.{badPosition, breaks16, breaks17, together, judge}
 use Rattle.security.proofs.Accepted.{read-wellFormed}
 
--- the place of the first of so many
+-- the place of the first of at most 32
 of-few : {A : Type 0} (test : A → Bool) (xs : List A) → length xs ≤ 32 → (place : ℕ) → first test xs ≡ some place → place ≤ decidingBytes
 of-few test xs h place e = omega (arith, first-below test xs place e)
 
@@ -53,6 +53,6 @@ read-within s =
     within-andThen 12 decidingBytes (decode s) sound (within-more 12 decidingBytes (omega arith) (omega arith) (decode s) (decode-within s))
     (λ d e. sound-within d (decoded-wellFormed s d e .limits))
 
--- what judges a placement of an accepted description
+-- judging a placement of an accepted description
 pub judged-within : (s : List ℕ) (d : Description) → read s ≡ ok d → (p : List ℕ) → RefusalWithin 17 decidingBytes (judge d p)
 judged-within s d a p = judge-within d (read-wellFormed s d a .limits) p

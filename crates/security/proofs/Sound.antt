@@ -1,5 +1,5 @@
--- What Read gives, case by case: what decoding refuses; else the first of rules 2 to 4 that is broken, with its number and place; else 12
--- for too many candidates; else the description.
+-- What Read gives, case by case: what decoding refuses; otherwise the first of rules 2 to 4 that is broken, with its number and place;
+-- otherwise 12 for too many candidates; otherwise the description.
 use Prim.Native.Nat.{ℕ, _≤_, _<_}
 use mathlib.Core.Path.{_≡_, refl}
 use mathlib.Core.List.{List}
@@ -14,7 +14,7 @@ use Rattle.sequences.specs.Results.{ok, refused}
 use Rattle.sequences.proofs.Results.{ok-inj, unless-ok}
 use Rattle.sequences.proofs.Tests.{cond-none}
 
--- bytes that decoding refuses are refused so; of others the rules tell
+-- bytes that decoding refuses are refused in the same way; for others the rules decide
 module _ (s : List ℕ) where
   pub read-refused : {number place : ℕ} → decode s ≡ refused number place → read s ≡ refused number place
   unfolding read
@@ -24,7 +24,7 @@ module _ (s : List ℕ) where
   unfolding read
   read-decoded e = rw e refl
 
--- each rule is looked for after the one before it was kept
+-- each rule is looked for only if the one before it is kept
 module _ (d : Description) where
   pub breaks-rule2 : {b : ℕ} → first breaks2 (d .blocks) ≡ some b → sound d ≡ refused 9 b
   unfolding sound
@@ -49,7 +49,7 @@ module _ (d : Description) where
         unfolding sound
         keeps-all few = rw (rule2, rule3, rule4, le-ltb 65536 (count d) few) refl
 
--- what is accepted keeps them all, and is what was decoded
+-- what is accepted keeps all rules, and is what was decoded
 pub accepted-keeps : (d e : Description) → sound d ≡ ok e
     → (first breaks2 (d .blocks) ≡ none) × (first (breaks3 d) (d .edges) ≡ none) × (first (breaks4 d) (d .edges) ≡ none) × (count d ≤ 65536) × (d ≡ e)
 unfolding sound

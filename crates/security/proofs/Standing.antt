@@ -1,5 +1,5 @@
--- Where a block may stand, from the rules: on a declared cloud whose label covers its own, and that keeps its pin. A position past the last
--- block may have 0 alone.
+-- Where a block may stand, from the rules: on a declared cloud whose label covers its own and that its pin allows. A position past the
+-- last block may have only 0.
 use Prim.Native.Nat.{ℕ, _≤_, _<_}
 use native.Mathlib.Decide.{decLt}
 use native.Mathlib.Omega.{arith}
@@ -41,7 +41,7 @@ module _ (d : Description) where
   unfolding mayStand
   beyond-stands b k h = rw (le-ltb b (length (d .blocks)) h) (eqb-true k 0, eq-eqb k 0)
 
-  -- where a position may have its cloud, it is good
+  -- a position may have its cloud exactly if it is good
   pub may-stand : (p : List ℕ) (b : ℕ) → (mayStand d b (getD p b 0) ≡ true) ↔ Good d p b
   may-stand p b = elim (decLt b (length (d .blocks))) [
     | yes low ↦

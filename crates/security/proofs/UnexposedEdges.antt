@@ -1,5 +1,5 @@
--- A placement keeps rules 16 and 17 where no edge, read or written, exposes a copy; and a candidate where on each edge the service's cloud
--- has a label that covers the datum's.
+-- A placement keeps rules 16 and 17 if no edge, read or write, exposes a copy; a candidate keeps them if on each edge the label of the
+-- service's cloud covers the datum's.
 use Prim.Native.Nat.{ℕ, _<_}
 use native.Mathlib.Decide.{ℕ-discrete}
 use native.Mathlib.Omega.{arith}
@@ -24,7 +24,7 @@ use Rattle.sequences.proofs.Members.{none-members}
 use Rattle.sequences.proofs.Tests.{both-pass, and-fails}
 
 module _ (d : Description) (p : List ℕ) where
-  -- an edge exposes no copy exactly where it keeps both rules
+  -- an edge exposes no copy exactly if it keeps both rules
   edge-keeps : (e : Edge) → (exposes d p e ≡ false) ↔ ((breaks16 d p e ≡ false) × (breaks17 d p e ≡ false))
   edge-keeps e = go (isWrite (e .way)) refl
     where
@@ -41,8 +41,8 @@ module _ (d : Description) (p : List ℕ) where
         λ h. both-pass _ _ .1 (ap not (keeps16 .1 (λ e m. edge-keeps e .0 (h e m) .0)), ap not (keeps17 .1 (λ e m. edge-keeps e .0 (h e m) .1))),
       )
 
--- Where a candidate's datum stands on the service's cloud itself, that cloud's label covers the datum's by rule 7. So on which clouds the data stand
--- does not matter.
+-- If a candidate's datum stands on the service's cloud itself, that cloud's label covers the datum's by rule 7. So it does not matter on
+-- which clouds the data stand.
 pub unexposed-covered : (d : Description) → WellFormed d → (p : List ℕ) → Placed d p
     → (unexposed d p ≡ true) ↔ ((e : Edge) → List·Memᴰ e (d .edges) → Covers (cloudLabel d (serviceCloud p e)) (blockLabel d (e .datum)))
 unexposed-covered d w p placed = (

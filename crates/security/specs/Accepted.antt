@@ -1,4 +1,4 @@
--- What an accepted description keeps besides what decoding asks: rules 2 to 4, and the limit on candidates.
+-- What an accepted description meets besides what decoding asks: rules 2 to 4, and the limit on candidates.
 use Prim.Native.Nat.{ℕ, _≤_}
 use mathlib.Core.Path.{_≡_}
 use mathlib.Core.List.{List}
@@ -17,8 +17,8 @@ pub record Accepted (s : List ℕ) (d : Description) : Type 0 where
   pub rule4 : first (breaks4 d) (d .edges) ≡ none
   pub few : count d ≤ 65536
 
--- What a walk over a description's placements asks of it, read from bytes or not: it is well formed, its numbers are in their ranges, and
--- it has no more candidates than may be.
+-- What a walk over a description's placements asks of it, whether or not it was read from bytes: it is well formed, its numbers are in
+-- their ranges, and it does not have too many candidates.
 pub record Admitted (d : Description) : Type 0 where
   pub wellFormed : WellFormed d
   pub inRange : InRange d

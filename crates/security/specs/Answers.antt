@@ -1,4 +1,4 @@
--- What Judge answers, as an enum: for every case the scope's number and values. Beside it the enums that the crate uses inside.
+-- Judge's answer as an enum: the scope's number and values for every case. Also the enums that the crate uses inside.
 use Prim.Native.Nat.{ℕ}
 use mathlib.Core.Bool.{Bool}
 use mathlib.Core.List.{List}

@@ -1,4 +1,4 @@
--- The pairs by blocks, for a walk over placements: which blocks may not stand on one cloud.
+-- The pairs in terms of blocks, for a walk over placements: which blocks may not stand on one cloud.
 use Prim.Native.Nat.{ℕ}
 use mathlib.Core.Bool.{Bool, _&&_, _||_}
 use lib.Dec.{eqb}

@@ -1,4 +1,4 @@
--- The clouds that hold a datum, as marks: a byte for each cloud that there may be.
+-- The clouds that hold a datum, as marks: a byte for each possible cloud.
 use Prim.Native.Nat.{ℕ}
 use mathlib.Core.Bool.{cond}
 use mathlib.Core.List.{List, map}
@@ -9,7 +9,7 @@ use Rattle.description.specs.Layout.{mostClouds}
 use Rattle.security.specs.Placements.{holds}
 use Rattle.sequences.specs.Lists.{below}
 
--- marks with one more at cloud k; a cloud that there cannot be gets none
+-- the marks with cloud k marked as well; a number that no cloud can have gets no mark
 abbrev pub marked : List ℕ → (k : ℕ) → List ℕ
 marked a k = cond (ltb k mostClouds) (set a k 1) a
 

@@ -1,5 +1,5 @@
--- What Read asks of a decoded description, from the scope's rules themselves: equations, plain orders and the order of labels, and no test
--- that the definitions use.
+-- What Read asks of a decoded description, from the scope's rules themselves: equations, plain orders and the order of labels, without the
+-- tests that the definitions use.
 use Prim.Native.Nat.{ℕ, _≤_, _<_}
 use mathlib.Core.Path.{_≡_}
 use mathlib.Core.List.{List, List·Memᴰ}
@@ -45,19 +45,19 @@ Keeps3 d = AllKept (Rule3 d) (length (d .edges))
 abbrev pub Keeps4 : Description → Type 0
 Keeps4 d = AllKept (Rule4 d) (length (d .edges))
 
--- the list has candidates alone, each once; a candidate is sixteen clouds whose every position is good
+-- the list has only candidates, each once; a candidate is sixteen clouds with every position good
 pub record Candidates (d : Description) (ps : List (List ℕ)) : Type 0 where
   pub once : Once ps
   pub each : (p : List ℕ) → List·Memᴰ p ps → (length p ≡ 16) × Placed d p
 
--- at most 65,536 candidates: no list of them is longer; more than that: one is
+-- at most 65,536 candidates: no list of them is longer; more than that: some list is
 abbrev pub Few : Description → Type 0
 Few d = (ps : List (List ℕ)) → Candidates d ps → length ps ≤ 65536
 
 abbrev pub Many : Description → Type 0
 Many d = (ps : List (List ℕ)) × Candidates d ps × (65536 < length ps)
 
--- all that Read asks of a description that was decoded
+-- all that Read asks of a decoded description
 pub record Lawful (d : Description) : Type 0 where
   pub rule2 : Keeps2 d
   pub rule3 : Keeps3 d

@@ -1,4 +1,4 @@
--- The permitted clouds as bits: a byte for each of the sixteen positions, by which a walk goes over the candidates.
+-- The permitted clouds as bits: a byte for each of the sixteen positions, from which a walk takes the clouds of the candidates.
 use Prim.Native.Nat.{ℕ, _-_, _^_, _≤_, _<_}
 use mathlib.Core.Path.{_≡_}
 use mathlib.Core.Logic.{_↔_}
@@ -15,12 +15,12 @@ use Rattle.sequences.specs.Ascending.{Ascending, Once}
 use Rattle.sequences.specs.Bits.{bit, bits, setBits, bitChoices}
 use Rattle.sequences.specs.Lists.{before, product}
 
--- of some clouds, as bits, those that a pin leaves
+-- those of some clouds, as bits, that a pin leaves
 abbrev pub leftBy : Pin → ℕ → ℕ
 leftBy Free clouds = clouds
 leftBy (To c) clouds = cond (bit clouds c) (2 ^ c) 0
 
--- bit k is set where block b may stand on cloud k; past the last block there is 0, although a position there may have cloud 0
+-- bit k is set if block b may stand on cloud k; past the last block there is 0, although a position there may have cloud 0
 unfoldable pub maskOf : Description → ℕ → ℕ
 maskOf d b = cond (namesBlock d b) (bits (mayStand d b) 0 8) 0
 
@@ -28,7 +28,7 @@ maskOf d b = cond (namesBlock d b) (bits (mayStand d b) 0 8) 0
 unfoldable pub masksOf : Description → List ℕ
 masksOf d = table 16 (maskOf d)
 
--- What sixteen bytes must be, from the rule itself: bit k of byte b is set exactly where b is a block that may stand on cloud k.
+-- What sixteen bytes must be, from the rule itself: bit k of byte b is set exactly if b is a block that may stand on cloud k.
 pub record Permitted (d : Description) (ms : List ℕ) : Type 0 where
   pub sixteen : length ms ≡ 16
   pub low : (b : ℕ) → getD ms b 0 < 256
@@ -43,8 +43,8 @@ blockMasks d ms = take (length (d .blocks)) ms
 abbrev pub padded : Description → List ℕ → List ℕ
 padded d q = q ++ replicate (16 - length (d .blocks)) 0
 
--- What bytes by which a walk goes must be: the choices of a permitted cloud for each block are the candidates, each once and in order, and the
--- product of the bits set is their number.
+-- What the bytes that a walk uses must be: the choices of a permitted cloud for each block are the candidates, each once and in order, and
+-- the product of the numbers of set bits is the number of candidates.
 pub record Chooses (d : Description) (ms : List ℕ) : Type 0 where
   pub exactly : map (padded d) (bitChoices (blockMasks d ms)) ≡ candidates d
   pub once : Once (bitChoices (blockMasks d ms))

@@ -19,7 +19,7 @@ serviceCloud p e = getD p (e .service) 0
 abbrev pub datumCloud : List ℕ → Edge → ℕ
 datumCloud p e = getD p (e .datum) 0
 
--- the two differ: the edge makes a transfer, and a copy of the datum on the service's cloud
+-- the two differ: the edge makes a transfer, and so a copy of the datum on the service's cloud
 unfoldable pub moves : List ℕ → Edge → Bool
 moves p e = not (eqb (serviceCloud p e) (datumCloud p e))
 
@@ -27,7 +27,7 @@ moves p e = not (eqb (serviceCloud p e) (datumCloud p e))
 unfoldable pub exposes : Description → List ℕ → Edge → Bool
 exposes d p e = moves p e && not (covers (cloudLabel d (serviceCloud p e)) (blockLabel d (e .datum)))
 
--- rule 16, of a read; rule 17, of a write
+-- rule 16, for a read; rule 17, for a write
 unfoldable pub breaks16 : Description → List ℕ → Edge → Bool
 breaks16 d p e = not (isWrite (e .way)) && exposes d p e
 
@@ -54,7 +54,7 @@ together d p a = any (holdsBoth d p a) (below (length (d .clouds)))
 unfoldable pub badPosition : Description → List ℕ → ℕ → Bool
 badPosition d p b = not (mayStand d b (getD p b 0))
 
--- 13: the lowest bad position; 14: rule 16, the first edge; 15: rule 17, the first edge; 17: the first broken pair. The value says: secure.
+-- 13: the lowest bad position; 14: rule 16, the first edge; 15: rule 17, the first edge; 17: the first broken pair. A value means: secure.
 unfoldable pub judge : Description → List ℕ → Result (Unit {0})
 judge d p =
     unless (first (badPosition d p) positions) 13
@@ -63,7 +63,7 @@ judge d p =
     (unless (first (together d p) (d .pairs)) 17
     (ok tt))))
 
--- a candidate breaks rule 16; rule 17; keeps both: exposes no copy; breaks a pair; is secure
+-- a candidate breaks rule 16; breaks rule 17; keeps both, so exposes no copy; breaks a pair; is secure
 abbrev pub broken16 : Description → List ℕ → Bool
 broken16 d p = any (breaks16 d p) (d .edges)
 

@@ -17,15 +17,15 @@ use Rattle.labels.specs.Labels.{covers}
 use Rattle.sequences.specs.Lists.{keep, first, below, sequences, product}
 use Rattle.sequences.specs.Results.{Result, ok, unless, andThen}
 
--- l of a cloud, by its number, and of a block (of a datum its own, of a service its location): labels, as clearances are. Each ≥ between
--- them in the rules means covers.
+-- The label of a cloud and of a block, by number (l in the rules): for a datum its own, for a service its location. Clearances are labels
+-- too. Each ≥ between them in the rules means covers.
 abbrev pub cloudLabel : Description → ℕ → ℕ
 cloudLabel d k = cloud d k .label
 
 abbrev pub blockLabel : Description → ℕ → ℕ
 blockLabel d b = block d b .label
 
--- c of a service
+-- the clearance of a service (c in the rules)
 abbrev pub clearanceOf : Kind → ℕ
 clearanceOf (Datum size longevity) = 0
 clearanceOf (Service clearance units) = clearance
@@ -58,7 +58,7 @@ pinAllows (To c) k = eqb c k
 abbrev pub cloudCovers : Description → (label k : ℕ) → Bool
 cloudCovers d label k = namesCloud d k && covers (cloudLabel d k) label
 
--- Block b may stand on cloud k: k is declared, its label covers that of b, and the pin of b is kept. A position past the last block has 0.
+-- Block b may stand on cloud k: k is declared, its label covers that of b, and the pin of b allows it. A position past the last block has 0.
 unfoldable pub mayStand : Description → ℕ → ℕ → Bool
 mayStand d b k = cond (namesBlock d b) (cloudCovers d (blockLabel d b) k && pinAllows (block d b .pin) k) (eqb k 0)
 
@@ -69,7 +69,7 @@ choicesOf d b = keep (mayStand d b) (below 8)
 abbrev pub positions : List ℕ
 positions = below 16
 
--- the candidates, in lexicographic order; how many they are, without listing them
+-- the candidates, in lexicographic order; how many there are, without listing them
 unfoldable pub candidates : Description → List (List ℕ)
 candidates d = sequences (map (choicesOf d) positions)
 
@@ -89,6 +89,6 @@ sound d =
     (unless (tooMany d) 12
     (ok d))))
 
--- the description that is accepted, or the first refusal of its bytes, 1 to 12
+-- the accepted description, or the first refusal of its bytes, 1 to 12
 unfoldable pub read : List ℕ → Result Description
 read s = andThen (decode s) sound

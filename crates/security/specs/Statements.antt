@@ -1,4 +1,4 @@
--- What a placement must be, from the scope's rules themselves: equations and the order of labels, and no test that the definitions use.
+-- What a placement must be, from the scope's rules themselves: equations and the order of labels, without the tests that the definitions use.
 use Prim.Native.Nat.{ℕ, _≤_, _<_}
 use mathlib.Core.Path.{_≡_}
 use mathlib.Core.Logic.{_⊎_}
@@ -20,7 +20,7 @@ pub record Stands (d : Description) (b k : ℕ) : Type 0 where
   pub rule7 : Covers (cloudLabel d k) (blockLabel d b)
   pub pin : (c : ℕ) → block d b .pin ≡ To c → c ≡ k
 
--- Position b is good: its block stands where it may, and past the last block there is 0.
+-- Position b is good: its block stands where it may; past the last block there is 0.
 pub record Good (d : Description) (p : List ℕ) (b : ℕ) : Type 0 where
   pub stands : b < length (d .blocks) → Stands d b (getD p b 0)
   pub beyond : length (d .blocks) ≤ b → getD p b 0 ≡ 0
@@ -29,12 +29,12 @@ pub record Good (d : Description) (p : List ℕ) (b : ℕ) : Type 0 where
 abbrev pub Placed : Description → List ℕ → Type 0
 Placed d p = (b : ℕ) → b < 16 → Good d p b
 
--- An edge keeps the rule for its way, 16 for reads and 17 for writes: where the service is not on the datum's cloud, the label of the
+-- An edge keeps the rule for its way, 16 for reads and 17 for writes: if the service is not on the datum's cloud, the label of the
 -- service's cloud, which gets a copy, covers the datum's.
 abbrev pub Keeps : Way → Description → List ℕ → Edge → Type 0
 Keeps way d p e = e .way ≡ way → (serviceCloud p e ≡ datumCloud p e → ⊥) → Covers (cloudLabel d (serviceCloud p e)) (blockLabel d (e .datum))
 
--- It breaks the rule: the label is not covered. It need not be higher.
+-- It breaks the rule: the label is not covered. This does not mean that it is higher.
 pub record Breaks (way : Way) (d : Description) (p : List ℕ) (e : Edge) : Type 0 where
   pub goes : e .way ≡ way
   pub moves : serviceCloud p e ≡ datumCloud p e → ⊥
@@ -49,7 +49,7 @@ pub record FirstBreaks (way : Way) (d : Description) (p : List ℕ) (n : ℕ) : 
   pub breaks : Breaks way d p (edge d n)
   pub earlier : (i : ℕ) → i < n → Keeps way d p (edge d i)
 
--- Edge e puts a copy of datum n on cloud k: it is an edge of that datum, whose service stands on k, and the datum elsewhere.
+-- Edge e puts a copy of datum n on cloud k: it is an edge of that datum, its service stands on k, and the datum stands elsewhere.
 pub record Copies (p : List ℕ) (n k : ℕ) (e : Edge) : Type 0 where
   pub of : e .datum ≡ n
   pub moves : serviceCloud p e ≡ datumCloud p e → ⊥
@@ -72,7 +72,7 @@ pub record FirstMeets (d : Description) (p : List ℕ) (n : ℕ) : Type 0 where
   pub meet : Meet d p (pair d n)
   pub earlier : (i : ℕ) → i < n → Meet d p (pair d i) → ⊥
 
--- A secure placement: a candidate that keeps rules 16 and 17, and whose pairs never meet.
+-- A secure placement: a candidate that keeps rules 16 and 17 and in which the data of no pair meet.
 pub record Secure (d : Description) (p : List ℕ) : Type 0 where
   pub placed : Placed d p
   pub rule16 : AllKeep Reads d p

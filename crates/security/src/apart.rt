@@ -20,7 +20,7 @@ use description::workflow::pair_at;
 use description::workflow::pair_count;
 use sequences::wide;
 
-// Marks a cloud, where it is one of those that there may be.
+// Marks a cloud, if it is one of the possible ones.
 fn mark(held: &mut [u8; MOST_CLOUDS], cloud: u8)
     ensures { λ _. ⌜ now (held .exit) ≡ marked (now (held .entry)) cloud ⌝ }
 {
@@ -30,8 +30,8 @@ fn mark(held: &mut [u8; MOST_CLOUDS], cloud: u8)
     }
 }
 
-// The clouds that hold datum n: its own, and those of the services on its edges. A service that stands elsewhere has a copy, and one that
-// does not stands on the datum's own cloud, so that no edge is asked whether it makes a transfer.
+// The clouds that hold datum n: its own, and those of the services on its edges. A service that stands elsewhere has a copy; one that does
+// not is on the datum's own cloud. So there is no need to test whether an edge makes a transfer.
 fn clouds_holding(w: &Words, placement: [u8; 16], n: usize) -> [u8; MOST_CLOUDS]
     ensures { λ r. ⌜ r ≡ heldBy (describes (now (w .entry))) placement n ⌝ }
 {
@@ -60,7 +60,7 @@ fn in_both(left: [u8; MOST_CLOUDS], right: [u8; MOST_CLOUDS], k: usize) -> bool
     right[k] == 1
 }
 
-// The first broken pair: the loops are left at the first cloud that holds both data of one.
+// The first broken pair: the loops end at the first cloud that holds both data of a pair.
 fn first_together(w: &Words, placement: [u8; 16]) -> Found
     ensures { λ r. ⌜ foundIn r ≡ first (together (describes (now (w .entry))) placement) (describes (now (w .entry)) .pairs) ⌝ }
 {
@@ -86,7 +86,7 @@ fn first_together(w: &Words, placement: [u8; 16]) -> Found
     Found::Nothing
 }
 
-// The same; most descriptions have no pairs, and this is short enough to be compiled in place.
+// The same; most descriptions have no pairs, and this is short enough to be inlined.
 pub fn first_broken(w: &Words, placement: [u8; 16]) -> Found
     ensures { λ r. ⌜ foundIn r ≡ first (together (describes (now (w .entry))) placement) (describes (now (w .entry)) .pairs) ⌝ }
 {

@@ -1,5 +1,5 @@
-// The permitted clouds of all blocks as bits, worked out once for a call: they tell how many candidates there are and which positions of a
-// placement are bad, and a walk takes the clouds from them alone. The bits of a byte are counted as it is made, before it lies in memory.
+// The permitted clouds of all blocks as bits, worked out once for a call: they give the number of candidates and the bad positions of a
+// placement, and a walk takes the clouds from them alone. The bits of a byte are counted when it is made, before it is stored.
 ghost use mathlib.Core.Path.{_≡_};
 ghost use mathlib.Core.Bool.{cond};
 ghost use Prim.Native.Nat.{_^_};
@@ -19,13 +19,13 @@ use sequences::with_bit;
 
 pub const POSITIONS: usize = 16;
 
-// The bits of a byte, one for each cloud that there can be.
+// The bits of a byte, one for each possible cloud.
 pub const MASK_BITS: u8 = 8;
 
-// A byte for each position: bit k is set where the block may stand on cloud k.
+// A byte for each position: bit k is set if the block may stand on cloud k.
 pub type Masks = [u8; POSITIONS];
 
-// No block has it for its label, since it is no byte: none was looked at yet.
+// No byte, so no block has this label: none was looked at yet.
 const NO_LABEL: usize = 256;
 
 // The clouds whose labels cover this one, from the highest bit down.
@@ -42,7 +42,7 @@ fn covering_clouds(w: &Words, label: u8) -> u8
     m
 }
 
-// Of these clouds cloud c alone, if it is one of them.
+// Cloud c alone, if it is one of these clouds.
 fn alone(clouds: u8, c: u8) -> u8
     ensures { λ r. ⌜ r ≡ cond (bit clouds c) (2 ^ c) 0 ⌝ }
 {
@@ -55,7 +55,7 @@ fn alone(clouds: u8, c: u8) -> u8
     0
 }
 
-// Of these clouds those that a pin leaves.
+// Those of these clouds that a pin leaves.
 fn left_by(pin: Pin, clouds: u8) -> u8
     ensures { λ r. ⌜ r ≡ leftBy pin clouds ⌝ }
 {
@@ -65,9 +65,9 @@ fn left_by(pin: Pin, clouds: u8) -> u8
     }
 }
 
-// All of them, and how many candidates there are: the product of the bits set, at most 8 to the 16th power, so that it fits. A byte past the
-// last block is 0, although its position may have cloud 0: it has one choice and no bit, and is not counted. Blocks that follow each other often
-// have the same label, and then the clouds that cover it are looked for once.
+// All masks, and how many candidates there are: the product of the numbers of set bits, at most 8 to the 16th power, so it fits. A byte past
+// the last block is 0, although its position may have cloud 0: it has one choice and no bit, and is not counted. Blocks in a row often have
+// the same label; then the clouds that cover it are looked for once.
 pub fn masks_of(w: &Words, masks: &mut Masks) -> u64
     requires { ⌜ now masks ≡ replicate 16 0 ⌝ }
     ensures { λ r. ⌜ r ≡ count (describes (now (w .entry))) ⌝ }

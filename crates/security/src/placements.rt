@@ -1,7 +1,6 @@
 // Judging one placement.
 ghost use mathlib.Core.Path.{_≡_};
 ghost use mathlib.Core.Bool.{not, _&&_, cond};
-ghost use Prim.Native.Nat.{_<_};
 ghost use lib.Dec.{ltb, eqb};
 ghost use lib.ListN.{getD};
 ghost use Rattle.sequences.specs.Bits.{bit};
@@ -116,8 +115,8 @@ pub fn first_breaking(w: &Words, placement: [u8; 16], rule: Rule) -> Found
     Found::Nothing
 }
 
-// Position b has cloud k and may not have it: for a block, bit k of its byte m is not set; past the last of the n blocks, k is not 0. The byte is
-// passed by value: of one that lies in a lent array it is not known that it is less than 256.
+// Position b has cloud k and may not have it: for a block, bit k of its byte m is not set; past the last of the n blocks, k is not 0. The
+// byte is passed by value: if it lay in a lent array, the proof would not know that it is less than 256.
 fn is_bad(n: usize, m: u8, b: usize, k: u8) -> bool
     ensures { λ r. ⌜ r ≡ not (cond (ltb b n) (ltb k 8 && bit m k) (eqb k 0)) ⌝ }
 {
@@ -151,7 +150,7 @@ fn unfit(number: u8, place: usize) -> Verdict
     Verdict::Refused(Refusal { number, place })
 }
 
-// Positions first, then rule 16, then rule 17 and then the pairs.
+// Positions first, then rule 16, then rule 17, then the pairs.
 pub fn verdict(w: &Words, masks: &Masks, placement: [u8; 16]) -> Verdict
     requires { ⌜ now masks ≡ masksOf (describes (now w)) ⌝ }
     ensures { λ r. ⌜ judgeAnswer r ≡ judge (describes (now (w .entry))) placement ⌝ }

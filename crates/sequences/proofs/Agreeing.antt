@@ -1,5 +1,5 @@
--- Functions and tests on a list go by its elements: two that agree on each make the same list; a test that fails on each keeps
--- nothing; one that passes at one position at most keeps at most one element.
+-- Functions and tests that agree on every element of a list give the same list. A test that fails on each element keeps nothing; one
+-- that passes at one position at most keeps at most one element.
 use Prim.Native.Nat.{ℕ, zero, suc, _≤_, _<_, zero-le}
 use native.Mathlib.Nat.{zero-lt-suc, suc-inj, le-refl, not-suc-le-zero, le-of-suc-le-suc}
 use native.Mathlib.Omega.{arith}
@@ -17,12 +17,12 @@ pub tests-agree : (a b : Bool) → (a ≡ true) ↔ (b ≡ true) → a ≡ b
 tests-agree true b h = sym (h .0 refl)
 tests-agree false b h = sym (not-passed b (λ t. false≢true (h .1 t)))
 
--- an element stands at a position
+-- every element has a position
 pub member-at : {A : Type 0} (default : A) {x : A} {xs : List A} → List·Memᴰ x xs → (i : ℕ) × (i < length xs) × (getD xs i default ≡ x)
 member-at default (List·Memᴰ·head e) = (0, zero-lt-suc _, sym e)
 member-at default (List·Memᴰ·tail m) = let (i, l, e) = member-at default m in (suc i, omega arith, e)
 
--- and at a position there stands an element
+-- and every position has an element
 pub at-member : {A : Type 0} (default : A) (xs : List A) (i : ℕ) → i < length xs → List·Memᴰ (getD xs i default) xs
 at-member default [] i h = absurd (not-suc-le-zero h)
 at-member default (x ∷ xs) zero h = List·Memᴰ·head refl
@@ -51,7 +51,7 @@ pub keep-agree : {A : Type 0} (t u : A → Bool) (xs : List A) → ((x : A) → 
 keep-agree t u [] h = refl
 keep-agree t u (x ∷ xs) h = rw (h x (List·Memᴰ·head refl), keep-agree t u xs (λ y m. h y (List·Memᴰ·tail m))) refl
 
--- what is kept of a mapped list is the image of what passes there
+-- keeping after a map: the images of those elements whose images pass
 pub keep-map : {A B : Type 0} (f : A → B) (t : B → Bool) (l : List A) → keep t (map f l) ≡ map f (keep (λ a. t (f a)) l)
 keep-map f t [] = refl
 keep-map f t (a ∷ l) = step (t (f a)) (keep-map f t l)
@@ -61,7 +61,7 @@ keep-map f t (a ∷ l) = step (t (f a)) (keep-map f t l)
     step true e = ap (λ r. f a ∷ r) e
     step false e = e
 
--- where each fails, nothing is kept
+-- if each fails, nothing is kept
 pub keep-none : {A : Type 0} (t : A → Bool) (xs : List A) → ((x : A) → List·Memᴰ x xs → t x ≡ false) → keep t xs ≡ []
 keep-none t [] h = refl
 keep-none t (x ∷ xs) h = rw (h x (List·Memᴰ·head refl)) (keep-none t xs (λ y m. h y (List·Memᴰ·tail m)))

@@ -1,4 +1,4 @@
--- Lists that ascend: made by `++`, by a map, by a test, by counting; and that each element stands in them once.
+-- Lists that ascend: made by `++`, by a map, by a test, by counting; and each element occurs in them once.
 use Prim.Native.Nat.{ℕ, zero, suc}
 use mathlib.Core.Path.{_≡_, refl, sym, _∙_}
 use mathlib.Core.Logic.{inl, inr}
@@ -28,7 +28,7 @@ module _ {A : Type 0} (test : A → A → Bool) where
       (λ _. (λ y m. p .0 y (keep-members kept xs y .0 m .0), keep-ascends kept xs (p .1)))
       (λ _. keep-ascends kept xs (p .1))
 
-  -- where no element is before itself, each stands once in a list that ascends
+  -- if no element is before itself, each occurs once in a list that ascends
   pub ascending-once : ((x : A) → test x x ≡ false) → (xs : List A) → Ascending test xs → Once xs
   ascending-once irreflexive [] p = tt
   ascending-once irreflexive (x ∷ xs) p =
@@ -43,14 +43,14 @@ map-ascends test test' f keeps (x ∷ xs) p = (
   map-ascends test test' f keeps xs (p .1),
 )
 
--- what a test keeps of a list whose elements stand once
+-- what a test keeps of a list without repetitions
 pub keep-once : {A : Type 0} (kept : A → Bool) (xs : List A) → Once xs → Once (keep kept xs)
 keep-once kept [] o = tt
 keep-once kept (x ∷ xs) o = cond-ind Once (kept x) (x ∷ keep kept xs) (keep kept xs)
     (λ _. (λ m. o .0 (keep-members kept xs x .0 m .0), keep-once kept xs (o .1)))
     (λ _. keep-once kept xs (o .1))
 
--- and what a map that keeps elements apart makes of one
+-- and the image of such a list under an injective map
 pub map-once : {A B : Type 0} (f : A → B) → ((x y : A) → f x ≡ f y → x ≡ y) → (xs : List A) → Once xs → Once (map f xs)
 map-once f apart [] o = tt
 map-once f apart (x ∷ xs) o = (

@@ -1,4 +1,4 @@
--- All choices of one element of each list: how many they are, which they are, and that they stand in lexicographic order.
+-- All choices of one element of each list: how many there are, which they are, and that they are in lexicographic order.
 use Prim.Native.Nat.{ℕ, zero, suc, _*_, _<_}
 use native.Mathlib.Nat.{suc-mul, zero-mul, add-comm, suc-inj, not-suc-le-zero, le-of-suc-le-suc}
 use native.Mathlib.Omega.{arith}
@@ -25,7 +25,7 @@ module _ {A : Type 0} where
   length-sequences [] = refl
   length-sequences (c ∷ cs) = length-prefixed (sequences cs) c ∙ ap (λ n. length c * n) (length-sequences cs)
 
-  -- each list in `prefixed` is one of the elements before one of the lists
+  -- each list in `prefixed` is one of the elements in front of one of the lists
   prefixed-to : (rest : List (List A)) (c p : List A) → List·Memᴰ p (prefixed rest c)
       → (k : A) × (q : List A) × List·Memᴰ k c × List·Memᴰ q rest × (p ≡ k ∷ q)
   prefixed-to rest [] p m = absurd (List·Memᴰ·not-nil m)

@@ -1,5 +1,5 @@
--- How many elements of a list are different, up to a test that tells which are alike: as many as stand for those alike.
--- Each of two lists that name every kind once is at most as long as the other.
+-- How many elements of a list differ, by a test for which are alike: as many as there are representatives. Of two lists that each name
+-- every kind once, neither is longer than the other.
 use Prim.Native.Nat.{_≤_, _<_}
 use native.Mathlib.Nat.{le-antisymm}
 use native.Mathlib.Omega.{arith}
@@ -32,7 +32,7 @@ member-counts (List·Memᴰ·head e) = omega arith
 member-counts (List·Memᴰ·tail m) = omega arith
 
 module _ {A : Type 0} {alike : A → A → Bool} (laws : Equivalence alike) where
-  -- elements no two of which are alike are at most as many as a list has that has one like each
+  -- a list in which no two are alike is at most as long as a list that has one like each of its elements
   no-more : (xs ys : List A) → Unlike alike xs → ((x : A) → List·Memᴰ x xs → Named alike ys x) → length xs ≤ length ys
   no-more [] ys u h = omega arith
   no-more (x ∷ xs) ys u h =
@@ -41,7 +41,7 @@ module _ {A : Type 0} {alike : A → A → Bool} (laws : Equivalence alike) wher
       let rest = no-more xs (keep (λ z. not (alike x z)) ys) (u .1) others in
       omega (arith, two-parts (alike x) ys)
     where
-      -- those that are not like x have one like each of the others
+      -- those of ys that are not like x have one like each of the others
       others : (z : A) → List·Memᴰ z xs → Named alike (keep (λ v. not (alike x v)) ys) z
       others z k =
           let (w, j, s) = h z (List·Memᴰ·tail k) in
@@ -82,7 +82,7 @@ module _ {A : Type 0} {alike : A → A → Bool} (laws : Equivalence alike) wher
     once-unlike xs (o .1) (λ y z m k. h y z (List·Memᴰ·tail m) (List·Memᴰ·tail k)),
   )
 
-  -- Where exactly one member stands for each kind, the different elements are as many as those that stand.
+  -- If exactly one member of each kind passes `stands`, there are as many different elements as members that pass.
   pub distinct-number : (stands : A → Bool) (xs : List A) → Once xs → Represented alike stands xs → length (distinctBy alike xs) ≡ length (keep stands xs)
   distinct-number stands xs o k = le-antisymm
       (no-more (distinctBy alike xs) (keep stands xs) (distinct-unlike xs) stood)
@@ -97,7 +97,7 @@ module _ {A : Type 0} {alike : A → A → Bool} (laws : Equivalence alike) wher
           let (j, t) = keep-members stands xs y .0 n in
           k .unique x y i j s t)
 
--- A list without repetitions is at most as long as one that has all its members: where equality is decided, those alike are one.
+-- A list without repetitions is at most as long as one that has all its members, if a test decides equality.
 pub once-fewer : {A : Type 0} {alike : A → A → Bool} → Decides alike → (xs ys : List A)
     → Once xs → ((x : A) → List·Memᴰ x xs → List·Memᴰ x ys) → length xs ≤ length ys
 once-fewer decides xs ys once inside =

@@ -1,5 +1,5 @@
 -- A walk that keeps the best so far finds the first of the sorted list that is past the cursor, and n draws in a row answer the sorted
--- list's elements one by one and then none. Both answers are the least past the cursor, and there is only one such.
+-- list's elements one by one and then none. Both answers are the least element past the cursor, and there is only one.
 use Prim.Native.Nat.{ℕ, zero, suc, _≤_}
 use native.Mathlib.Nat.{le-of-suc-le-suc, not-suc-le-zero}
 use native.Mathlib.Omega.{arith}
@@ -110,15 +110,15 @@ module _ {A B M : Type 0} (t : A → Bool) (f : A → B) (g : M → B → M) (st
       (λ p. rw (passing m a p) (fold-kept (g m (f a)) l))
       (λ p. rw (failing m a p) (fold-kept m l))
 
--- the walk over a list, only some of whose elements count
+-- Of a list only some elements count:
 module _ {A B : Type 0} (test : A → A → Bool) (later : A → Bool) (t : B → Bool) (f : B → A) where
-  -- is the walk over those, mapped
+  -- the walk over it is the walk over those, mapped
   pub walk-is-best : (l : List B) → foldl (betterIf test later t f) none l ≡ bestOf test later (map f (keep t l))
   walk-is-best = fold-kept t f (better test later) (betterIf test later t f) (λ best b p. rw p refl) (λ best b p. rw p refl) none
 
 -- ---- draws in a row
 
--- l is, in order, all that has the property P
+-- l has exactly the elements with property P, in order
 record InOrder {A : Type 0} (test : A → A → Bool) (P : A → Type 0) (l : List A) : Type 0 where
   ascends : Ascending test l
   members : (z : A) → List·Memᴰ z l ↔ P z
@@ -169,8 +169,8 @@ module _ {A C : Type 0} {test : A → A → Bool} (order : StrictOrder test) {la
   drawn (suc n) (suc m) h c (x ∷ l) k =
       rw (draw-head c (x ∷ l) k) (ap (λ (r : List (Option A)). some x ∷ r) (drawn n (suc m) (omega arith) (past x) l (left-tail c x l k)))
 
-  -- Where each draw answers the least element past its cursor, n draws in a row, the first from a cursor that all elements are past,
-  -- answer the first n of: the elements in order, and then none each time.
+  -- If each draw answers the least element past its cursor, n draws in a row, the first from a cursor that all elements are past, answer
+  -- the elements in order, and after the last one none each time.
   pub draws-answer : Once xs → (start : C) → ((x : A) → later start x ≡ true)
       → (n m : ℕ) → n ≤ m → chained draw (moved past) start n ≡ take n (map some (sort test xs) ++ replicate m none)
   draws-answer once start all n m h = drawn n m h start (sort test xs) (record {
@@ -178,7 +178,7 @@ module _ {A C : Type 0} {test : A → A → Bool} (order : StrictOrder test) {la
     members = λ z. (λ k. (sort-members test xs z .0 k, all z), λ k. sort-members test xs z .1 (k .0));
   })
 
--- Draws whose every answer is made by f of another draw's, and leads to the same cursor: the answers in a row are made by f.
+-- If every answer of a draw is f of another draw's answer and leads to the same cursor, its answers in a row are f of the other's.
 module _ {A B C : Type 0} (f : A → B) (draw : C → A) (next : C → A → C) (draw′ : C → B) (next′ : C → B → C)
     (made : (c : C) → draw′ c ≡ f (draw c)) (leads : (c : C) (a : A) → next′ c (f a) ≡ next c a) where
   pub chained-map : (c : C) (n : ℕ) → chained draw′ next′ c n ≡ map f (chained draw next c n)

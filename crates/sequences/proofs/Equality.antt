@@ -1,4 +1,4 @@
--- Equality of lists: `equalBy` decides it, where its test decides equality of elements; and equal lists have equal last elements. A
+-- Equality of lists: `equalBy` decides it if its test decides equality of elements; and equal lists have equal last elements. A
 -- test that decides equality is an equivalence.
 use mathlib.Core.Path.{_≡_, refl, sym, ap₂, _∙_}
 use mathlib.Core.Logic.{_↔_}
@@ -10,11 +10,11 @@ use Rattle.sequences.specs.Lists.{equalBy, same}
 use Rattle.sequences.specs.Orders.{Equivalence}
 use Rattle.sequences.proofs.Tests.{both-pass}
 
--- the test passes exactly where its two arguments are equal
+-- the test passes exactly if its two arguments are equal
 abbrev pub Decides : {A : Type 0} → (A → A → Bool) → Type 0
 Decides {A} test = (x y : A) → (test x y ≡ true) ↔ (x ≡ y)
 
--- two lists are equal exactly where `equalBy` says so
+-- two lists are equal exactly if `equalBy` says so
 pub equalBy-decides : {A : Type 0} (test : A → A → Bool) → Decides test → Decides (equalBy test)
 equalBy-decides test h [] [] = (λ _. refl, λ _. refl)
 equalBy-decides test h [] (y ∷ ys) = (λ t. absurd (false≢true t), λ e. absurd (nil≢cons e))
@@ -24,11 +24,11 @@ equalBy-decides test h (x ∷ xs) (y ∷ ys) = (
   λ e. both-pass _ _ .1 (h x y .1 (head-eq-of-cons-eq e), equalBy-decides test h xs ys .1 (tail-eq-of-cons-eq e)),
 )
 
--- of numbers, where `same` does
+-- for lists of numbers, `same` says so
 pub same-decides : Decides same
 same-decides = equalBy-decides eqb (λ x y. (eqb-true x y, eq-eqb x y))
 
--- a test that decides equality of what a map makes of elements is an equivalence of these
+-- a test that decides whether two elements have the same image is an equivalence
 pub alike-by : {A B : Type 0} {alike : A → A → Bool} (f : A → B) → ((x y : A) → (alike x y ≡ true) ↔ (f x ≡ f y)) → Equivalence alike
 alike-by f h = record {
   reflexive = λ x. h x x .1 refl;
@@ -36,7 +36,7 @@ alike-by f h = record {
   transitive = λ x y z t u. h x z .1 (h x y .0 t ∙ h y z .0 u);
 }
 
--- two equal lists, by their last elements and what stands before them
+-- equal lists have the same last element and the same elements before it
 pub snoc-same : {A : Type 0} (xs ys : List A) (x y : A) → xs ++ (x ∷ []) ≡ ys ++ (y ∷ []) → (xs ≡ ys) × (x ≡ y)
 snoc-same [] [] x y e = (refl, head-eq-of-cons-eq e)
 snoc-same [] (b ∷ ys) x y e = absurd (concat-ne-nil y ys (sym (tail-eq-of-cons-eq e)))

@@ -61,7 +61,7 @@ table-all P n f z h i = elim (decLt i n) [
   | no l ↦ rw (List·getD-eq-default (table n f) 0 {n = i} (omega (arith, length-table n f))) z
 ]
 
--- of an array of n entries the first i are those of f, and the others are 0
+-- the first i entries of an array of n are those of f, the others are 0
 pub record Filled (n : ℕ) (f : ℕ → ℕ) (a : List ℕ) (i : ℕ) : Type 0 where
   pub size : length a ≡ n
   pub upto : i ≤ n
@@ -86,7 +86,7 @@ module _ {n : ℕ} {f : ℕ → ℕ} where
       left = λ j l. getD-set-other a i j v 0 (λ p. omega arith) ∙ k .left j (omega arith);
     }
 
-    -- those up to m, which are 0
+    -- entries up to m that are 0 are filled already
     pub fill-skip : {m : ℕ} → Filled n f a i → i ≤ m → m ≤ n → ((j : ℕ) → i ≤ j → j < m → f j ≡ 0) → Filled n f a m
     fill-skip k l h z = record {
       size = k .size;
@@ -95,7 +95,7 @@ module _ {n : ℕ} {f : ℕ → ℕ} where
       left = λ j b. k .left j (omega arith);
     }
 
-    -- all are, or the others are 0
+    -- all entries are filled, or the others are 0
     pub fill-ends : Filled n f a i → n ≤ i → a ≡ table n f
     fill-ends k h =
         ext-getD 0 a (table n f) (k .size ∙ sym (length-table n f))
@@ -104,7 +104,7 @@ module _ {n : ℕ} {f : ℕ → ℕ} where
   pub fill-stops : {a : List ℕ} {i : ℕ} → Filled n f a i → ((j : ℕ) → i ≤ j → j < n → f j ≡ 0) → a ≡ table n f
   fill-stops k z = fill-ends (fill-skip k (k .upto) (omega arith) z) (omega arith)
 
--- the same as far as m: an entry, one more, and all
+-- the same up to m: an entry, one more, and all
 pub getD-tableTo : (n m : ℕ) (f : ℕ → ℕ) (i : ℕ) → i < n → i < m → getD (tableTo n m f) i 0 ≡ f i
 getD-tableTo n m f i h l = getD-table n (upTo m f) i h ∙ simp (lt-ltb i m l)
 
@@ -115,7 +115,7 @@ module _ {n : ℕ} (m : ℕ) (f : ℕ → ℕ) {a : List ℕ} {i : ℕ} where
   pub fill-last : Filled n (upTo m f) a i → m ≤ i → a ≡ tableTo n m f
   fill-last k h = fill-stops k (λ j l b. simp (le-ltb j m (omega arith)))
 
--- two functions that agree as far as m
+-- two functions that agree below m
 pub tableTo-same : (n m k : ℕ) (f g : ℕ → ℕ) → m ≡ k → ((i : ℕ) → i < m → f i ≡ g i) → tableTo n m f ≡ tableTo n k g
 tableTo-same n m k f g e h =
     table-same n (upTo m f) (upTo m g) (λ i _. elim (decLt i m) [

@@ -1,4 +1,4 @@
--- What `first` finds: the lowest position whose element passes the test, or nothing where every element fails.
+-- What `first` finds: the lowest position whose element passes the test, or nothing if every element fails.
 use Prim.Native.Nat.{ℕ, zero, suc, _<_}
 use native.Mathlib.Nat.{not-suc-le-zero, le-of-suc-le-suc, zero-lt-suc}
 use native.Mathlib.Omega.{arith}
@@ -12,7 +12,7 @@ use Rattle.sequences.specs.Lists.{any, first, firstFrom}
 use Rattle.sequences.proofs.Tests.{cond-ind, not-failed}
 
 module _ {A : Type 0} (test : A → Bool) (default : A) where
-  -- what is to be shown of a position that is found, and of none
+  -- the claim for a position that is found, and for none
   abbrev IsFirst : List A → Option ℕ → Type 0
   IsFirst xs none = (i : ℕ) → i < length xs → test (getD xs i default) ≡ false
   IsFirst xs (some n) = (n < length xs) × (test (getD xs n default) ≡ true) × ((i : ℕ) → i < n → test (getD xs i default) ≡ false)
@@ -48,12 +48,12 @@ module _ {A : Type 0} (test : A → Bool) (default : A) where
       let f : test x ≡ false = h .2 0 (zero-lt-suc n) in
       rw f (from-next 0 xs ∙ ap (Option·map suc) (first-is-found xs (some n) (omega arith, h .1, λ i l. h .2 (suc i) (omega arith))))
 
-  -- position n is found exactly where its element passes and every earlier one fails
+  -- position n is found exactly if its element passes and every earlier one fails
   pub first-some : (xs : List A) (n : ℕ)
       → (first test xs ≡ some n) ↔ ((n < length xs) × (test (getD xs n default) ≡ true) × ((i : ℕ) → i < n → test (getD xs i default) ≡ false))
   first-some xs n = (λ e. subst (IsFirst xs) e (found-is-first xs), first-is-found xs (some n))
 
-  -- nothing is found exactly where every element fails
+  -- nothing is found exactly if every element fails
   pub first-none : (xs : List A) → (first test xs ≡ none) ↔ ((i : ℕ) → i < length xs → test (getD xs i default) ≡ false)
   first-none xs = (λ e. subst (IsFirst xs) e (found-is-first xs), first-is-found xs none)
 
@@ -67,11 +67,11 @@ module _ {A : Type 0} (test : A → Bool) where
       step true h = (λ e. absurd (Option·some-ne-none n e), λ e. absurd (true≢false e))
       step false h = h
 
-  -- nothing is found exactly where no element passes
+  -- nothing is found exactly if no element passes
   pub none-found : (xs : List A) → (first test xs ≡ none) ↔ (any test xs ≡ false)
   none-found = none-from 0
 
-  -- where something is found, some element passes
+  -- if something is found, some element passes
   pub some-found : (xs : List A) (n : ℕ) → first test xs ≡ some n → any test xs ≡ true
   some-found xs n e = not-failed (any test xs) (λ f. Option·some-ne-none n (sym e ∙ none-found xs .1 f))
 

@@ -20,12 +20,12 @@ module _ {A : Type 0} (f g : A → ℕ) where
   sum-plus [] = refl
   sum-plus (x ∷ xs) = omega (arith, sum-plus xs)
 
-  -- no term is higher: the sum isn't
+  -- if no term is higher, the sum is not higher
   pub sum-below : (xs : List A) → ((x : A) → List·Memᴰ x xs → f x ≤ g x) → sum (map f xs) ≤ sum (map g xs)
   sum-below [] h = le-refl 0
   sum-below (x ∷ xs) h = omega (arith, h x (List·Memᴰ·head refl), sum-below xs (λ y m. h y (List·Memᴰ·tail m)))
 
-  -- nor is the other sum: the terms are equal
+  -- if the other sum is not higher either, the terms are equal
   pub sum-each : (xs : List A) → ((x : A) → List·Memᴰ x xs → f x ≤ g x) → sum (map g xs) ≤ sum (map f xs) → (x : A) → List·Memᴰ x xs → f x ≡ g x
   sum-each [] h l x m = absurd (List·Memᴰ·not-nil m)
   sum-each (y ∷ xs) h l x m =
@@ -83,11 +83,11 @@ module _ {A : Type 0} where
   sum-zero [] = refl
   sum-zero (x ∷ xs) = omega (arith, sum-zero xs)
 
--- what the elements with key n come to
+-- the sum of the elements with key n
 abbrev pub groupSum : {A : Type 0} → (A → ℕ) → (A → ℕ) → List A → ℕ → ℕ
 groupSum key f xs n = sum (map f (keep (λ x. eqb (key x) n) xs))
 
--- a sum in order is the sum of what its groups come to
+-- a sum is the sum of its groups' sums
 module _ {A : Type 0} (key f : A → ℕ) (keys : List ℕ) (once : Once keys) where
   pub sum-groups : (xs : List A) → ((x : A) → List·Memᴰ x xs → List·Memᴰ (key x) keys) → sum (map f xs) ≡ sum (map (groupSum key f xs) keys)
   sum-groups [] h = sym (sum-zero keys)

@@ -1,4 +1,4 @@
--- Lists one behind the other, and what is stored behind a front.
+-- Lists one after the other, and values stored after a front.
 use Prim.Native.Nat.{ℕ, _+_, _*_, _≤_}
 use native.Mathlib.Omega.{arith}
 use mathlib.Core.Path.{_≡_, refl, sym, ap, ap₂, _∙_}
@@ -18,7 +18,7 @@ module _ {A : Type 0} where
   joined-length f k h (b ∷ l) =
       length-append (f b) (joined (map f l)) ∙ omega (arith, h b, joined-length f k h l)
 
-  -- a front stands before what is left of l, and vs is stored behind it
+  -- a front, then the rest of l: vs is stored after the front
   pub stored-behind : (front vs l : List A) (k : ℕ) → length front ≡ k → k + length vs ≤ length l
       → sets (front ++ drop k l) k vs ≡ (front ++ vs) ++ drop (k + length vs) l
   stored-behind front vs l k e h =

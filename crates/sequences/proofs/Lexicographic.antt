@@ -14,7 +14,7 @@ use Rattle.sequences.proofs.Orders.{before-lower, before-rest, before-c
 
 -- ---- place by place
 
--- a list that is nowhere higher has no list before it of the same length
+-- no list is before one of the same length that is nowhere higher
 pub not-before : (xs ys : List ℕ) → length xs ≡ length ys → ((i : ℕ) → i < length xs → getD xs i 0 ≤ getD ys i 0) → before ys xs ≡ true → ⊥
 not-before [] [] e h t = false≢true t
 not-before [] (y ∷ ys) e h t = false≢true t
@@ -24,7 +24,7 @@ not-before (x ∷ xs) (y ∷ ys) e h t = elim (before-cases y x ys xs t) [
   | inr r ↦ not-before xs ys (suc-inj e) (λ i l. h (suc i) (omega arith)) (r .1)
 ]
 
--- a list with a lower number in one place is before the list
+-- a list with one number lowered is before the list
 pub set-before : (xs : List ℕ) (i k : ℕ) → i < length xs → k < getD xs i 0 → before (set xs i k) xs ≡ true
 set-before [] i k l h = absurd (not-suc-le-zero l)
 set-before (x ∷ xs) zero k l h = before-lower k x xs xs h
@@ -52,7 +52,7 @@ module _ (u k v l : ℕ) where
       let later : u ≡ v → ¬ (k < l) = λ e h. true≢false (sym (pair-before .1 (inr (e, h))) ∙ f) in
       (omega arith, λ e. omega (arith, later (sym e)))
 
--- first numbers u and v that are to each other as x and y
+-- first numbers u and v that compare as x and y do
 pub before-as : (x y u v : ℕ) (xs ys : List ℕ) → (x < y → u < v) → (x ≡ y → u ≡ v) → (y < x → v < u)
     → before (u ∷ xs) (v ∷ ys) ≡ before (x ∷ xs) (y ∷ ys)
 before-as x y u v xs ys low tie high = go (decLt x y) (decLt y x)
@@ -67,6 +67,6 @@ before-as x y u v xs ys low tie high = go (decLt x y) (decLt y x)
         let other = tie same in
         rw (le-ltb u v (omega arith), eq-eqb u v other, le-ltb x y (omega arith), eq-eqb x y same) refl
 
--- what is added to both first numbers makes no difference
+-- adding the same to both first numbers makes no difference
 pub before-plus : (x y n : ℕ) (xs ys : List ℕ) → before ((x + n) ∷ xs) ((y + n) ∷ ys) ≡ before (x ∷ xs) (y ∷ ys)
 before-plus x y n xs ys = before-as x y (x + n) (y + n) xs ys (λ l. omega arith) (λ e. omega arith) (λ h. omega arith)

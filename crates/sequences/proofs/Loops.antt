@@ -1,5 +1,5 @@
--- What a loop over a list's elements keeps: from position i on, a search, a count, a product is what it is from the next position on,
--- with the element at i told apart.
+-- What a loop over a list's elements keeps: a search, a count or a product from position i on is made of the element at i and of the
+-- same from the next position on.
 use mathlib.Core.Path.{_≡_, refl, sym, ap, ap₂, _∙_}
 use Prim.Native.Nat.{ℕ, zero, suc, _+_, _*_, _≤_, _<_}
 use native.Mathlib.Numerals.{add-one}
@@ -59,11 +59,11 @@ module _ {A : Type 0} (f : A → ℕ) (l : List A) (z : A) (i : ℕ) (h : i < le
   pub sum-next : sum (map f (drop i l)) ≡ f (getD l i z) + sum (map f (drop (i + 1) l))
   sum-next = ap (λ k. sum (map f k)) (rest l z i h)
 
--- a test that was made of a copy of an element tells of the element
+-- a test of a copy of an element is a test of the element
 pub told : {A : Type 0} (t : A → Bool) {x y : A} {r v : Bool} → x ≡ y → r ≡ t x → r ≡ v → t y ≡ v
 told t e f g = sym (ap t e) ∙ sym f ∙ g
 
--- a loop over numbers may stop at k where those from k on add nothing
+-- a loop over numbers may stop at k if those from k on add nothing
 module _ (t : ℕ → Bool) where
   none-from : (j k n : ℕ) → ((i : ℕ) → j + k ≤ i → t i ≡ false) → keep t (drop k (from j n)) ≡ []
   none-from j zero zero h = refl

@@ -1,5 +1,5 @@
--- Elements that are the images of a function, where the test orders the originals: it need not tell apart all values of the images' type.
--- What `Draws` shows of an order on that type holds of the list of images.
+-- Elements that are images of a function. The test orders the originals; it need not order all values of the images' type. What `Draws`
+-- shows of an order on that type holds for the list of images.
 use Prim.Native.Nat.{ℕ, zero, suc}
 use native.Mathlib.Nat.{le-refl}
 use mathlib.Core.Path.{_≡_, refl, sym, ap, _∙_}
@@ -56,12 +56,12 @@ module _ {A B : Type 0} (f : A → B) where
           best-mapped later none xs ∙ ap (Option·map f) (best-is-first order (λ y. later (f y)) xs) ∙ sym (find-mapped later (sort by xs)) ∙
           ap (find later) (sym (sort-mapped xs))
 
-      -- and so does the walk over a list only some of whose elements count
+      -- and so does the walk over a list of which only some elements count
       pub walk-is-first-mapped : (later : B → Bool) (t : A → Bool) (l : List A)
           → foldl (betterIf test later t f) none l ≡ find later (sort test (map f (keep t l)))
       walk-is-first-mapped later t l = walk-is-best test later t f l ∙ best-is-first-mapped later (keep t l)
 
-      -- the sorted list ascends, if each original stands once in its list
+      -- the sorted list ascends, if each original occurs once in its list
       pub sort-ascends-mapped : (xs : List A) → Once xs → Ascending test (sort test (map f xs))
       sort-ascends-mapped xs once =
           rw (sort-mapped xs) (map-ascends by test f (λ x y t. t) (sort by xs) (sort-ascends order xs once))

@@ -42,11 +42,11 @@ module _ {A : Type 0} (test : A → Bool) where
   any-none (y ∷ ys) x (List·Memᴰ·head e) f = rw e (or-fails (test y) (any test ys) f .0)
   any-none (y ∷ ys) x (List·Memᴰ·tail m) f = any-none ys x m (or-fails (test y) (any test ys) f .1)
 
-  -- some element passes exactly where one can be named
+  -- some element passes exactly if there is a member that passes
   pub any-members : (xs : List A) → (any test xs ≡ true) ↔ ((x : A) × List·Memᴰ x xs × (test x ≡ true))
   any-members xs = (any-to xs, λ (x, m, t). not-failed (any test xs) (λ f. true≢false (sym t ∙ any-none xs x m f)))
 
-  -- none does exactly where every element fails
+  -- none passes exactly if every element fails
   pub none-members : (xs : List A) → (any test xs ≡ false) ↔ ((x : A) → List·Memᴰ x xs → test x ≡ false)
   none-members xs = (λ f x m. any-none xs x m f, λ h. not-passed (any test xs) (λ e. let (x, m, t) = any-to xs e in true≢false (sym t ∙ h x m)))
 

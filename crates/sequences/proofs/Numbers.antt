@@ -1,4 +1,4 @@
--- How many elements pass a test: none exactly where no element passes, at most all, and as a sum; and sums of sums.
+-- How many elements pass a test: none exactly if no element passes, at most all, and as a sum; and sums of sums.
 use Prim.Native.Nat.{ℕ, suc, _+_, _*_, _≤_, _<_, zero-le}
 use native.Mathlib.Nat.{mul-suc, zero-lt-suc}
 use native.Mathlib.Omega.{arith}
@@ -10,7 +10,7 @@ use Rattle.sequences.specs.Lists.{any, keep, sum}
 use Rattle.sequences.proofs.Tests.{cond-ind, or-fails}
 
 module _ {A : Type 0} where
-  -- where some element passes, at least one is kept
+  -- if some element passes, at least one is kept
   pub some-kept : (t : A → Bool) (xs : List A) → any t xs ≡ true → 0 < length (keep t xs)
   some-kept t [] e = absurd (false≢true e)
   some-kept t (x ∷ xs) e = go (t x) (some-kept t xs) e
@@ -19,7 +19,7 @@ module _ {A : Type 0} where
       go true h e = zero-lt-suc _
       go false h e = h e
 
-  -- where no element passes, none is kept
+  -- if no element passes, none is kept
   pub none-kept : (t : A → Bool) (xs : List A) → any t xs ≡ false → length (keep t xs) ≡ 0
   none-kept t [] e = refl
   none-kept t (x ∷ xs) e =
@@ -42,7 +42,7 @@ module _ {A : Type 0} where
       go true h = rw mul-suc (omega arith)
       go false h = omega arith
 
-  -- a sum of two terms for each element: the one terms and the other
+  -- a sum of two terms for each element is the sum of the one terms plus that of the others
   pub sum-both : (f g : A → ℕ) (xs : List A) → sum (map (λ x. f x + g x) xs) ≡ sum (map f xs) + sum (map g xs)
   sum-both f g [] = omega arith
   sum-both f g (x ∷ xs) = omega (arith, sum-both f g xs)

@@ -1,5 +1,5 @@
--- Strict orders: the lexicographic order of lists of numbers is one, and an order can be pulled back along a map that keeps elements
--- apart. The least of what has a property is one element.
+-- Strict orders: the lexicographic order of lists of numbers is one, and an order can be pulled back along an injective map. At most one
+-- element is the least with a property.
 use Prim.Native.Nat.{ℕ, _<_}
 use native.Mathlib.Omega.{arith}
 use mathlib.Core.Path.{_≡_, refl, sym, ap, ap₂, _∙_}
@@ -15,7 +15,7 @@ use Rattle.sequences.proofs.Tests.{not-passed, both-pass, or-fails, or-
 
 -- ---- `before` by the first numbers
 
--- of equal ones the rest decides
+-- if the first numbers are equal, the rest decides
 pub before-same : (x : ℕ) (xs ys : List ℕ) → before (x ∷ xs) (x ∷ ys) ≡ before xs ys
 before-same x xs ys = simp (le-ltb x x (omega arith), eq-eqb x x refl)
 
@@ -24,7 +24,7 @@ module _ (x y : ℕ) (xs ys : List ℕ) where
   pub before-lower : x < y → before (x ∷ xs) (y ∷ ys) ≡ true
   before-lower l = simp (lt-ltb x y l)
 
-  -- of equal ones, what has the earlier rest
+  -- of equal ones, the one with the earlier rest
   pub before-rest : x ≡ y → before xs ys ≡ true → before (x ∷ xs) (y ∷ ys) ≡ true
   before-rest e t = rw e (before-same y xs ys ∙ t)
 
@@ -73,7 +73,7 @@ before-order = record { irreflexive = before-irreflexive; transitive = before-tr
 
 -- ---- any strict order
 
--- elements that a map keeps apart are ordered strictly by what it makes of them
+-- an injective map orders elements strictly, by their images
 pub pulled-back : {A B : Type 0} {test : B → B → Bool} (f : A → B) → ((x y : A) → f x ≡ f y → x ≡ y) → StrictOrder test
     → StrictOrder {A = A} (λ x y. test (f x) (f y))
 pulled-back f apart order = record {
@@ -87,7 +87,7 @@ module _ {A : Type 0} {test : A → A → Bool} (order : StrictOrder test) where
   pub asymmetric : (x y : A) → test x y ≡ true → test y x ≡ false
   asymmetric x y p = not-passed (test y x) (λ q. true≢false (sym (order .transitive x y x p q) ∙ order .irreflexive x))
 
-  -- the least of what has a property is one element, or nothing has it
+  -- the least element with a property is unique, or nothing has the property
   pub least-unique : (P : A → Type 0) (m k : Option A) → Least test P m → Least test P k → m ≡ k
   least-unique P none none f g = refl
   least-unique P none (some y) f g = absurd (f y (g .0))

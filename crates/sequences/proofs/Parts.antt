@@ -1,4 +1,4 @@
--- A test parts a list in two, two tests in three, and three in four: how many each part has. Of two lists it keeps what it keeps of each.
+-- A test splits a list in two, two tests in three, three in four: how many each part has. Of two joined lists a test keeps what it keeps of each.
 use Prim.Native.Nat.{ℕ, suc, _+_, _<_}
 use native.Mathlib.Numerals.{add-one}
 use native.Mathlib.Omega.{arith}
@@ -10,7 +10,7 @@ use lib.Seq.{take-suc}
 use Rattle.sequences.specs.Lists.{any, keep}
 
 module _ {A : Type 0} where
-  -- what a test keeps of two lists, one behind the other
+  -- what a test keeps of two lists, one after the other
   pub keep-append : (t : A → Bool) (xs ys : List A) → keep t (xs ++ ys) ≡ keep t xs ++ keep t ys
   keep-append t [] ys = refl
   keep-append t (x ∷ xs) ys = step (t x) (keep-append t xs ys)
@@ -20,12 +20,12 @@ module _ {A : Type 0} where
       step true e = ap (λ l. x ∷ l) e
       step false e = e
 
-  -- one of two lists passes where one of the first or one of the second does
+  -- some element of two joined lists passes if one of the first or one of the second does
   pub any-append : (t : A → Bool) (xs ys : List A) → any t (xs ++ ys) ≡ (any t xs || any t ys)
   any-append t [] ys = refl
   any-append t (x ∷ xs) ys = ap (λ b. t x || b) (any-append t xs ys) ∙ sym (or-assoc (t x) (any t xs) (any t ys))
 
-  -- one of the first i + 1 passes where one of the first i or the next one does
+  -- one of the first i + 1 passes if one of the first i or the next one does
   pub any-next : (t : A → Bool) (xs : List A) (default : A) (i : ℕ) → i < length xs
       → any t (take (i + 1) xs) ≡ (any t (take i xs) || (t (getD xs i default) || false))
   any-next t xs default i h =

@@ -1,4 +1,4 @@
--- What holds at every position of a list, or of every two, holds still when an element is added at the end or put in another's place.
+-- What holds at every position of a list, or of every two, still holds when an element is added at the end or replaced.
 use Prim.Native.Nat.{ℕ, zero, suc, _<_}
 use native.Mathlib.Decide.{decLt}
 use native.Mathlib.Omega.{arith}
@@ -11,7 +11,7 @@ use lib.Seq.{getD-append-seam}
 use Rattle.sequences.specs.Lists.{any}
 use Rattle.sequences.proofs.Tests.{any-fails}
 
--- One element more: a position is one of the list's, with its element there, or the new one's.
+-- One more element: a position is one of the list's, with the same element, or the new one's.
 module _ {A : Type 0} (d : A) (l : List A) (a : A) where
   abbrev pub Spot : ℕ → Type 0
   Spot i = ((i < length l) × (getD (l ++ (a ∷ [])) i d ≡ getD l i d)) ⊎ ((i ≡ length l) × (getD (l ++ (a ∷ [])) i d ≡ a))
@@ -22,7 +22,7 @@ module _ {A : Type 0} (d : A) (l : List A) (a : A) where
     | no n ↦ let e : i ≡ length l = omega (arith, length-append l (a ∷ [])) in inr (e, rw e (getD-append-seam l a [] d))
   ]
 
--- P holds of the element at every position. Past the last one the default stands, so it holds of that too.
+-- P holds of the element at every position. Past the last one there is the default, so P holds of that too.
 module _ {A : Type 0} (P : A → Type 0) (d : A) where
   pub everywhere : (l : List A) → P d → ((i : ℕ) → i < length l → P (getD l i d)) → (i : ℕ) → P (getD l i d)
   everywhere l p h i = elim (decLt i (length l)) [
@@ -48,7 +48,7 @@ abbrev pub Apart : {A : Type 0} → (A → A → Bool) → A → List A → Type
 Apart clash d l = (i j : ℕ) → i < length l → j < length l → clash (getD l i d) (getD l j d) ≡ true → i ≡ j
 
 module _ {A : Type 0} (clash : A → A → Bool) (turn : (x y : A) → clash x y ≡ clash y x) (d : A) (l : List A) (a : A) where
-  -- one element more, that clashes with none
+  -- one more element, which clashes with none
   pub apart-snoc : Apart clash d l → any (clash a) l ≡ false → Apart clash d (l ++ (a ∷ []))
   apart-snoc h f i j hi hj c = go (snoc-at d l a i hi) (snoc-at d l a j hj)
     where

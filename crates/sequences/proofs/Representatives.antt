@@ -1,5 +1,5 @@
--- Where elements have a strict order, the member of a list that stands for those like it is the one that none like it is before: exactly
--- one does, and it is before all others like it.
+-- If elements have a strict order, the representative of the members that are alike is the one with none like it before it: there is
+-- exactly one, and it is before all others like it.
 use mathlib.Core.Path.{_≡_, refl, sym, _∙_}
 use mathlib.Core.Logic.{_↔_, _⊎_, inl, inr}
 use mathlib.Core.Bool.{Bool, true, false, not, _&&_, true≢false, Bool-discrete}
@@ -17,7 +17,7 @@ use Rattle.sequences.proofs.Tests.{both-pass, not-passed}
 abbrev stands : {A : Type 0} (test alike : A → A → Bool) → List A → A → Bool
 stands test alike xs x = not (any (λ y. alike y x && test y x) xs)
 
--- the test passes exactly where each member like x is not before it
+-- the test passes exactly if no member like x is before it
 pub stands-first : {A : Type 0} (test alike : A → A → Bool) (xs : List A) (x : A)
     → (stands test alike xs x ≡ true) ↔ ((y : A) → List·Memᴰ y xs → alike y x ≡ true → test y x ≡ false)
 stands-first test alike xs x =
@@ -28,7 +28,7 @@ stands-first test alike xs x =
     )
 
 module _ {A : Type 0} {test alike : A → A → Bool} (order : StrictOrder test) (laws : Equivalence alike) (xs : List A) where
-  -- each member is like exactly one that stands so
+  -- each member is like exactly one that passes
   pub least-represent : Represented alike (stands test alike xs) xs
   least-represent = record {
     exists = λ x m. go x m (bestOf test (alike x) xs) (best-least order (alike x) xs);

@@ -1,4 +1,4 @@
--- The bits that a number has set, in rising order: the lowest of them and the others, how many they are, and the choices of one of each.
+-- The bits that a number has set, in rising order: the lowest of them and the others, how many there are, and the choices of one of each.
 use Prim.Native.Nat.{ℕ, zero, suc, _+_, _-_, _*_, _/_, _%_, _^_, _<_, min}
 use native.Mathlib.Nat.{zero-div, suc-add, pow-succ'}
 use native.Mathlib.Omega.{arith}
@@ -42,7 +42,7 @@ set-odd n m e = let low : m / 2 ^ 0 % 2 ≡ 0 → ⊥ = λ z. omega arith in rw 
 
 -- ---- the lowest, and the others
 
--- m and m - 1 have the upper bits of m in common, and if m is even, what the half and the number before it have
+-- What m and m - 1 have in common: if m is odd, all of m but its lowest bit; if m is even, twice what m / 2 and m / 2 - 1 have in common.
 and-odd : (m : ℕ) → m % 2 ≡ 1 → bitAnd m (m - 1) ≡ m / 2 * 2
 and-odd m e =
     let half : (m - 1) / 2 ≡ m / 2 = omega arith in
@@ -58,7 +58,7 @@ and-even m e n =
     let end : both * 2 + 0 ≡ both * 2 = omega arith in
     and-step m (m - 1) ∙ ap₂ (λ x y. bitAnd (m / 2) x * 2 + min (m % 2) y) half odd ∙ ap (λ x. both * 2 + min x 1) e ∙ end
 
--- twice a number has its bits, one higher
+-- doubling a number moves its bits up by one
 set-twice : (n x : ℕ) → setBelow (suc n) (x * 2) ≡ map suc (setBelow n x)
 set-twice n x =
     let half : x * 2 / 2 ≡ x = omega arith in
@@ -72,7 +72,7 @@ lowest-below (suc n) m h some =
     let less : m / 2 < 2 ^ n = omega (arith, pow-succ' 2 n) in
     go (lowest-below n (m / 2) less) (m % 2) refl
   where
-    -- the lowest of the half is known where that is not 0
+    -- the lowest bit of the half is known if the half is not 0
     go : ((m / 2 ≡ 0 → ⊥) → setBelow n (m / 2) ≡ trailingZeros n (m / 2) ∷ setBelow n (bitAnd (m / 2) (m / 2 - 1)))
         → (d : ℕ) → m % 2 ≡ d → setBelow (suc n) m ≡ under d (trailingZeros n (m / 2)) ∷ setBelow (suc n) (bitAnd m (m - 1))
     go half zero e =
@@ -95,7 +95,7 @@ trailing-wider (suc n) k m h some =
     go half zero e = ap suc (half (λ z. some (omega arith)))
     go half (suc d) e = refl
 
--- of a byte in a machine word
+-- for a byte in a machine word
 module _ (m : ℕ) (byte : m < 256) where
   pub lowest-and-rest : (m ≡ 0 → ⊥) → setBits m ≡ trailingZeros 64 m ∷ setBits (bitAnd m (m - 1))
   lowest-and-rest some = lowest-below 8 m byte some ∙ ap (λ c. c ∷ setBits (bitAnd m (m - 1))) (sym (trailing-wider 8 56 m byte some))

@@ -7,7 +7,7 @@ use mathlib.Core.List.{List, [], _∷_, _++_, map}
 use lib.ListN.{length}
 use Rattle.sequences.specs.Lists.{sum}
 
--- where no term exceeds m, a sum of at most n terms doesn't exceed n times m
+-- if no term exceeds m, a sum of at most n terms doesn't exceed n times m
 module _ {A : Type 0} (f : A → ℕ) (m : ℕ) (most : (a : A) → f a ≤ m) where
   pub sum-most : (l : List A) → sum (map f l) ≤ length l * m
   sum-most [] = omega arith
@@ -16,7 +16,7 @@ module _ {A : Type 0} (f : A → ℕ) (m : ℕ) (most : (a : A) → f a ≤ m) w
   pub sum-most-of : (n : ℕ) (l : List A) → length l ≤ n → sum (map f l) ≤ n * m
   sum-most-of n l h = le-trans (sum-most l) (mul-le-mul-right m h)
 
--- the sum of two lists, one behind the other
+-- the sum of two lists, one after the other
 pub sum-append : (xs ys : List ℕ) → sum (xs ++ ys) ≡ sum xs + sum ys
 sum-append [] ys = omega arith
 sum-append (x ∷ xs) ys = omega (arith, sum-append xs ys)

@@ -14,7 +14,7 @@ use lib.Dec.{leb, eqb}
 use borrow.Author.Tests.{eq-eqb, ne-eqb, leb-true, leb-false}
 use Rattle.sequences.specs.Lists.{any}
 
--- what holds of each branch, where the test sends there, holds of the choice
+-- what holds of each branch, if the test leads there, holds of the choice
 pub cond-ind : {A : Type 0} (P : A → Type 0) (test : Bool) (x y : A) → (test ≡ true → P x) → (test ≡ false → P y) → P (cond test x y)
 cond-ind P true x y f g = f refl
 cond-ind P false x y f g = g refl
@@ -52,12 +52,12 @@ pub or-passes : (a b : Bool) → a || b ≡ true → (a ≡ true) ⊎ (b ≡ tru
 or-passes true b e = inl refl
 or-passes false b e = inr e
 
--- one of two passes exactly where their `or` does
+-- one of two passes exactly if their `or` does
 pub one-passes : (a b : Bool) → (a || b ≡ true) ↔ ((a ≡ true) ⊎ (b ≡ true))
 one-passes true b = (or-passes true b, λ _. refl)
 one-passes false b = (or-passes false b, λ h. elim h [ inl f ↦ absurd (true≢false (sym f)) | inr t ↦ t ])
 
--- a test that is kept as a number, 1 where it passed, is read back
+-- a test stored as a number, 1 if it passed, is read back
 pub told-by-one : (b : Bool) → eqb (cond b 1 0) 1 ≡ b
 told-by-one true = refl
 told-by-one false = refl
@@ -68,14 +68,14 @@ any-fails t d [] e i h = absurd (not-suc-le-zero h)
 any-fails t d (x ∷ l) e zero h = or-fails (t x) (any t l) e .0
 any-fails t d (x ∷ l) e (suc i) h = any-fails t d l (or-fails (t x) (any t l) e .1) i (le-of-suc-le-suc h)
 
--- equality is tested the same way round or the other
+-- the order of the two sides of an equality test does not matter
 pub eqb-turn : (m n : ℕ) → eqb m n ≡ eqb n m
 eqb-turn m n = elim (ℕ-discrete m n) [
   | yes e ↦ eq-eqb m n e ∙ sym (eq-eqb n m (sym e))
   | no f ↦ ne-eqb m n f ∙ sym (ne-eqb n m (λ e. f (sym e)))
 ]
 
--- What room of a given size lacks for n: 0 where n fits, otherwise n. So nothing lacks, and n fits; or all of n does.
+-- What room of a given size lacks for n: 0 if n fits, otherwise n. So if w is 0, n fits; otherwise it doesn't, and w is n.
 module _ (n room w : ℕ) (e : w ≡ cond (leb n room) 0 n) where
   pub none-missing : w ≡ 0 → n ≤ room
   none-missing z = go (leb n room) refl e

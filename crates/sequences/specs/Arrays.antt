@@ -10,7 +10,7 @@ use Rattle.sequences.specs.Lists.{below}
 unfoldable pub table : (n : ℕ) → (ℕ → ℕ) → List ℕ
 table n f = map f (below n)
 
--- an array of n entries, of which the first m are filled, and the others 0
+-- an array of n entries: the first m are filled, the others are 0
 abbrev pub upTo : (m : ℕ) → (ℕ → ℕ) → ℕ → ℕ
 upTo m f i = cond (ltb i m) (f i) 0
 

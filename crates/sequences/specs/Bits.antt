@@ -1,4 +1,4 @@
--- Numbers by their bits: a mask, one bit for each of some numbers, says for which a test holds.
+-- Numbers by their bits. A mask has one bit for each of some numbers, set if a test holds for it.
 use Prim.Native.Nat.{ℕ, zero, suc, _+_, _*_, _/_, _%_, _^_}
 use mathlib.Core.Bool.{Bool, cond}
 use mathlib.Core.List.{List, map}
@@ -9,7 +9,7 @@ use Rattle.sequences.specs.Lists.{keep, below, sequences}
 unfoldable pub bit : ℕ → ℕ → Bool
 bit m k = eqb (m / 2 ^ k % 2) 1
 
--- the number whose lowest n bits say where t holds, from k on
+-- the number whose bit i, for each i below n, says whether t holds for k + i
 unfoldable pub bits : (ℕ → Bool) → (k n : ℕ) → ℕ
 bits t k zero = 0
 bits t k (suc n) = cond (t k) 1 0 + 2 * bits t (suc k) n

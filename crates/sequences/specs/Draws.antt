@@ -1,5 +1,5 @@
--- Draws: the first element past a cursor, found by one walk over a list that is in no order; and draws one after the other, each from
--- the cursor that the one before left.
+-- Draws: the first element past a cursor, found by one walk over an unordered list; and draws in a row, each from the cursor that the
+-- previous one left.
 use Prim.Native.Nat.{ℕ, zero, suc}
 use mathlib.Core.Path.{_≡_}
 use mathlib.Core.Bool.{Bool, true, _&&_, cond}
@@ -12,7 +12,7 @@ module _ {A : Type 0} where
   beats test x none = true
   beats test x (some best) = test x best
 
-  -- the best so far with x looked at: x takes its place if it is past the cursor and beats it
+  -- the best so far after looking at x: x replaces it if x is past the cursor and beats it
   abbrev pub better : (test : A → A → Bool) (later : A → Bool) → Option A → A → Option A
   better test later best x = cond (later x && beats test x best) (some x) best
 
@@ -20,22 +20,22 @@ module _ {A : Type 0} where
   abbrev pub bestOf : (test : A → A → Bool) (later : A → Bool) → List A → Option A
   bestOf test later xs = foldl (better test later) none xs
 
-  -- the best so far with b looked at, which f makes into an element if it passes t
+  -- the best so far after looking at b, which counts as the element f b if it passes t
   abbrev pub betterIf : {B : Type 0} (test : A → A → Bool) (later : A → Bool) (t : B → Bool) (f : B → A) → Option A → B → Option A
   betterIf test later t f best b = cond (t b && later (f b) && beats test (f b) best) (some (f b)) best
 
--- the cursor after an answer: past the element answered; where there was none, as it was
+-- the cursor after an answer: past the answered element; unchanged if there was none
 abbrev pub moved : {A C : Type 0} (past : A → C) → C → Option A → C
 moved past c none = c
 moved past c (some x) = past x
 
--- the answers of n draws: the first from cursor c, each later one from the cursor to which the answer before leads
+-- the answers of n draws: the first from cursor c, each later one from the cursor that the previous answer leads to
 abbrev pub chained : {A C : Type 0} (draw : C → A) (next : C → A → C) → C → ℕ → List A
 chained draw next c zero = []
 chained draw next c (suc n) = draw c ∷ chained draw next (next c (draw c)) n
 
--- Cursors into an order: what comes after an element past the cursor is past it too, and past the cursor of an element is what comes
--- after that element.
+-- Cursors into an order: whatever comes after an element past a cursor is past that cursor too; and past the cursor of an element are
+-- exactly the elements after it.
 pub record Cursors {A C : Type 0} (test : A → A → Bool) (later : C → A → Bool) (past : A → C) : Type 0 where
   pub upward : (c : C) (x y : A) → later c x ≡ true → test x y ≡ true → later c y ≡ true
   pub after : (x y : A) → later (past x) y ≡ test x y

@@ -48,12 +48,12 @@ module _ {A : Type 0} where
   abbrev pub sort : (A → A → Bool) → List A → List A
   sort test xs = foldr (insert test) [] xs
 
-  -- the elements without those that are like a later one: of those alike, the last stays
+  -- the elements that are not like a later one: of several alike, the last is kept
   abbrev pub distinctBy : (A → A → Bool) → List A → List A
   distinctBy alike [] = []
   distinctBy alike (x ∷ xs) = cond (any (alike x) xs) (distinctBy alike xs) (x ∷ distinctBy alike xs)
 
-  -- the lists one behind the other
+  -- the lists one after the other
   abbrev pub joined : List (List A) → List A
   joined [] = []
   joined (x ∷ xs) = x ++ joined xs
@@ -94,6 +94,6 @@ before [] (y ∷ ys) = true
 before (x ∷ xs) [] = false
 before (x ∷ xs) (y ∷ ys) = ltb x y || (eqb x y && before xs ys)
 
--- where b is one of a and c, and those differ: the other of them
+-- the other of a and c, if they differ and b is one of them
 abbrev pub otherEnd : (a c b : ℕ) → Option ℕ
 otherEnd a c b = cond (eqb a c) none (cond (eqb b a) (some c) (cond (eqb b c) (some a) none))

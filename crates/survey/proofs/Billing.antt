@@ -1,4 +1,4 @@
--- Cost and bill of a row are those of its placement; the three amounts add up to the cost, and none reaches 2^53.
+-- The cost and the bill of a row are those of its placement; the three amounts add up to the cost, and none reaches 2^53.
 use Prim.Native.Nat.{ℕ}
 use mathlib.Core.Path.{_≡_, refl, sym, ap, subst, _∙_}
 use mathlib.Core.List.{List, List·Memᴰ}
@@ -27,6 +27,6 @@ module _ (d : Description) (r : Row) (m : List·Memᴰ r (rows d)) where
   pub row-amounts : Admitted d → AmountsBelow (r .bill)
   row-amounts a = subst AmountsBelow (sym row-billed) (bounded-amounts d (r .placement) (admitted-bounded a))
 
--- so it is with every row of an accepted description
+-- the same holds for every row of an accepted description
 pub amounts-below : (s : List ℕ) (d : Description) → Bytes s → read s ≡ ok d → (r : Row) → List·Memᴰ r (rows d) → AmountsBelow (r .bill)
 amounts-below s d bytes accepted r m = row-amounts d r m (read-admitted s d accepted bytes)

@@ -1,4 +1,4 @@
--- The census's counts are those of Judge's answers and add up, and its options are as many as the rows.
+-- The census counts Judge's answers, its counts add up, and there are as many options as rows.
 use Prim.Native.Nat.{ℕ, _+_}
 use mathlib.Core.Path.{_≡_, refl, sym, ap, _∙_}
 use mathlib.Core.Bool.{Bool, true, false, not, _&&_, cond}
@@ -24,16 +24,16 @@ use Rattle.sequences.proofs.Sorting.{sort-length}
 
 -- ---- by Judge's answers
 
--- how many candidates Judge gives this number, 0 for those that it says are secure
+-- to how many candidates Judge gives this number; 0 for those that it calls secure
 abbrev judgedAs : Description → ℕ → ℕ
 judgedAs d n = length (keep (λ p. eqb (numberOf (judge d p)) n) (candidates d))
 
--- Judge's number of a candidate by what it breaks
+-- Judge's number for a candidate, by what it breaks
 abbrev numberBy : (a b c : Bool) → ℕ
 numberBy a b c = cond a 14 (cond b 15 (cond c 17 0))
 
 module _ (d : Description) (w : WellFormed d) where
-  -- a test of candidates that goes with Judge's number
+  -- a test of candidates that matches Judge's number
   judged : (n : ℕ) (test : List ℕ → Bool) → ((p : List ℕ) → test p ≡ eqb (numberBy (broken16 d p) (broken17 d p) (brokenApart d p)) n)
       → length (keep test (candidates d)) ≡ judgedAs d n
   judged n test h = ap length (keep-agree test (λ p. eqb (numberOf (judge d p)) n) (candidates d) (λ p m.
@@ -73,7 +73,7 @@ module _ (d : Description) (w : WellFormed d) where
       go false false true = refl
       go false false false = refl
 
-  -- and secure are those of which it says so.
+  -- and secure are those that it calls secure.
   pub secure-judged : census d .secure ≡ judgedAs d 0
   unfolding census securePlacements
   secure-judged = judged 0 (secure d) (λ p. go (broken16 d p) (broken17 d p) (brokenApart d p))
@@ -86,7 +86,7 @@ module _ (d : Description) (w : WellFormed d) where
 
 -- ---- sums and rows
 
--- the candidates are as many as the count of choices says
+-- there are as many candidates as the count of choices says
 pub census-candidates : (d : Description) → census d .candidates ≡ count d
 unfolding census
 census-candidates d = count-is-length d
@@ -97,14 +97,14 @@ pub census-sum : (d : Description)
 unfolding census securePlacements
 census-sum d = four-parts (broken16 d) (broken17 d) (brokenApart d) (candidates d)
 
--- the rows are as many as the placements that stand for their options
+-- there are as many rows as placements that represent their options
 pub rows-length : (d : Description) → length (rows d) ≡ length (keep (stands d) (securePlacements d))
 unfolding rows
 rows-length d =
     let standing = keep (stands d) (securePlacements d) in
     sort-length earlier (map (rowOf d) standing) ∙ length-map standing (rowOf d)
 
--- so they are as many as the different options, for each of which exactly one placement stands
+-- so there are as many as different options, since exactly one placement represents each
 pub options-number : (d : Description) → length (rows d) ≡ census d .options
 unfolding census
 options-number d =

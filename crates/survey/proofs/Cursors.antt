@@ -1,4 +1,4 @@
--- A cursor's floor: past a cost and sixteen bytes is at or above that cost, then the floor of the bytes.
+-- A cursor's floor: to be past a cost and sixteen bytes is to be not before that cost and the floor of the bytes.
 use Prim.Native.Nat.{ℕ}
 use native.Mathlib.Decide.{decLt}
 use native.Mathlib.Omega.{arith}
@@ -7,7 +7,7 @@ use mathlib.Core.Bool.{Bool, true, false, not, _&&_, _||_}
 use lib.Dec.{ltb, eqb}
 use borrow.Author.Tests.{lt-ltb, le-ltb, eq-eqb, ne-eqb}
 
--- (b, ..) comes after (a, ..) where it doesn't come before it: the first numbers decide, and where they are equal the rest does
+-- (b, ..) comes after (a, ..) if it does not come before it: the first numbers decide, and if they are equal, the rest
 pub turned : (a b : ℕ) (x : Bool) → (ltb a b || (eqb a b && not x)) ≡ not (ltb b a || (eqb b a && x))
 turned a b x = elim (decLt a b) [
   | yes l ↦ rw (lt-ltb a b l, le-ltb b a (omega arith), ne-eqb b a (λ e. omega arith)) refl

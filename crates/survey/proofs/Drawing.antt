@@ -1,4 +1,4 @@
--- The rows rise, and are those of the placements that stand for their options; and a draw can be made by one walk over the candidates.
+-- The rows rise, and are those of the placements that represent their options; and a draw can be made by one walk over the candidates.
 use Prim.Native.Nat.{ℕ}
 use mathlib.Core.Path.{_≡_, refl, sym, ap, _∙_}
 use mathlib.Core.Logic.{_↔_, Iff·trans}
@@ -22,13 +22,13 @@ use Rattle.sequences.proofs.Members.{keep-members}
 use Rattle.sequences.proofs.Parts.{keep-both}
 use Rattle.sequences.proofs.Sorting.{sort-members}
 
--- each secure placement is there once
+-- each secure placement occurs once
 pub secure-once : (d : Description) → Once (securePlacements d)
 unfolding securePlacements
 secure-once d = keep-once (secure d) (candidates d) (candidates-once d)
 
 module _ (d : Description) where
-  -- the placements that stand for their options, and their rows before they are sorted
+  -- the placements that represent their options, and their rows before they are sorted
   abbrev pub standing : List (List ℕ)
   standing = keep (stands d) (securePlacements d)
 
@@ -53,13 +53,13 @@ module _ (d : Description) where
   unfolding rows
   rows-rise = sort-ascends-mapped (rowOf d) earlier (placement-order d) standing standing-once
 
-  -- they are the rows of the secure placements that stand for their options
+  -- they are the rows of the secure placements that represent their options
   pub rows-standing : (r : Row)
       → List·Memᴰ r (rows d) ↔ ((p : List ℕ) × List·Memᴰ p (securePlacements d) × (stands d p ≡ true) × (rowOf d p ≡ r))
   unfolding rows
   rows-standing r = Iff·trans (sort-members earlier unsorted r) (unsorted-members r)
 
--- a draw is one walk over the candidates: of those that are secure and stand for their options, it keeps the first past the cursor
+-- a draw is one walk over the candidates: of those that are secure and represent their options, it keeps the first past the cursor
 pub draw-walks : (d : Description) (c : Cursor)
     → draw d c ≡ foldl (betterIf earlier (later c) (λ p. secure d p && stands d p) (rowOf d)) none (candidates d)
 unfolding draw rows securePlacements
@@ -67,7 +67,7 @@ draw-walks d c =
     ap (λ (l : List (List ℕ)). find (later c) (sort earlier (map (rowOf d) l))) (keep-both (secure d) (stands d) (candidates d)) ∙
     sym (walk-is-first-mapped (rowOf d) earlier (placement-order d) (later c) (λ p. secure d p && stands d p) (candidates d))
 
--- the rows are those of the placements, sorted; and a draw answers the first of them that is past its cursor
+-- the rows are those of these placements, sorted; and a draw answers the first of them that is past its cursor
 module _ (d : Description) where
   pub rows-sorted : rows d ≡ sort earlier (unsorted d)
   unfolding rows

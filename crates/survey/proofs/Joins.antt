@@ -1,4 +1,4 @@
--- The tables of a description that a walk may go over are its tables: what the walk sees over them is said of the description.
+-- The tables of an admitted description are tables of it: what the walk sees over them holds for the description.
 use Prim.Native.Nat.{ℕ, _-_, _<_}
 use native.Mathlib.Nat.{suc-inj}
 use native.Mathlib.Omega.{arith}
@@ -78,7 +78,7 @@ joined d a = record {
     secure-member : (q : List ℕ) → List·Memᴰ q (met d (tablesOf d)) → secure d (padded d q) ≡ true → List·Memᴰ (padded d q) (securePlacements d)
     secure-member q m h = keep-members (secure d) (candidates d) (padded d q) .1 (candidate-member q m, h)
 
--- the same behind both lists changes nothing
+-- appending the same to both lists changes nothing
 before-behind : (q u z : List ℕ) → length q ≡ length u → before (q ++ z) (u ++ z) ≡ before q u
 before-behind [] [] z e = before-irreflexive z
 before-behind [] (y ∷ u) z e = absurd (omega arith)
@@ -200,7 +200,7 @@ module _ (d : Description) (o : Option Row) (s : List ℕ) where
       go none k = refl
       go (some row) k = absurd (omega (arith, k .4, k .5, e))
 
-  -- the cost that was kept is that of the placement that was kept, and the row is theirs
+  -- the kept cost is that of the kept placement, and the row is theirs
   pub some-kept : KeptRow d o s → (getD s bestCostAt 0 ≡ costLimit → ⊥) → (bytes : List ℕ)
       → bytes ≡ digits (length (d .blocks)) (getD s bestPlaceAt 0) ++ replicate (16 - length (d .blocks)) 0
       → (getD s bestCostAt 0 ≡ cost d bytes) × (o ≡ some (record { cost = getD s bestCostAt 0; placement = bytes; bill = billOf d bytes }))

@@ -1,4 +1,4 @@
--- A walk that counts, with room enough, leaves the words of the rows that it met one behind the other, and what is beyond as it was.
+-- A walk that counts, with enough room, leaves the words of the rows that it met one after the other, and what is beyond unchanged.
 use Prim.Native.Nat.{ℕ, _+_, _*_, _≤_}
 use native.Mathlib.Nat.{add-zero}
 use native.Mathlib.Numerals.{add-one}
@@ -18,7 +18,7 @@ use Rattle.sorting.specs.Rows.{flat}
 use Rattle.sorting.proofs.Rows.{flat-none, flat-more}
 use Rattle.sequences.specs.Lists.{keep}
 
--- words put in at k are behind what was in front of them, and what is beyond them stays
+-- words put in at k come after what was before k, and what is beyond them stays
 module _ (k : ℕ) (vs ws : List ℕ) (h : k + length vs ≤ length ws) where
   abbrev middle : List ℕ
   middle = take k ws ++ vs ++ drop (k + length vs) ws
@@ -57,18 +57,18 @@ module _ {A : Type 0} (weight number : A → ℕ) (tests : A → Tests) where
   abbrev rows : List ℕ → ℕ
   rows s = getD s rowsAt 0
 
-  -- one placement: a row is put in, another leaves the words as they are
+  -- one placement: a row is put in, any other leaves the words unchanged
   put-in : (a : A) (s ws : List ℕ) → Counts s → isRow a ≡ true → kept a s ws ≡ withRow (rows s) (weight a) (number a) ws
   put-in a s ws c e = kept-row (weight a) (number a) (tests a) s ws (c .on) e
 
   left-out : (a : A) (s ws : List ℕ) → isRow a ≡ false → kept a s ws ≡ ws
   left-out a s ws e = kept-other (weight a) (number a) (tests a) s ws e
 
-  -- the words after a list of placements, where n rows stood before and m are met
+  -- the words after a list of placements, if there were n rows before and m are met
   abbrev after : (n m : ℕ) → List (ℕ × ℕ) → List ℕ → List ℕ
   after n m rows ws = take (n * 2) ws ++ flat rows ++ drop ((n + m) * 2) ws
 
-  -- the same where those that are met are given
+  -- the same for a given list of placements
   abbrev leave : (n : ℕ) → List A → List ℕ → List ℕ
   leave n rows ws = after n (length rows) (map words rows) ws
 

@@ -1,4 +1,4 @@
--- The walk meets exactly the candidates, by the sixteen bytes alone.
+-- The walk meets exactly the candidates, using the sixteen bytes alone.
 use mathlib.Core.Path.{ap, _∙_}
 use mathlib.Core.List.{foldl}
 use lib.ListN.{length}

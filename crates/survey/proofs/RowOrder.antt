@@ -1,4 +1,4 @@
--- Placements are ordered strictly by cost and then by their sixteen bytes. Rows as values are not: two may differ in their bills alone.
+-- Placements are ordered strictly by cost and then by their sixteen bytes. Rows as values are not: two may differ only in their bills.
 use Prim.Native.Nat.{ℕ}
 use mathlib.Core.List.{List, _∷_, tail-eq-of-cons-eq}
 use Rattle.description.specs.Declarations.{Description}

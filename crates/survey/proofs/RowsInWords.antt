@@ -1,5 +1,5 @@
--- The keys of a description's rows: what one walk keeps of it are they, in the walk's order, and they are ordered as the rows come.
-use Prim.Native.Nat.{ℕ, _+_, _*_, _-_, _≤_}
+-- The keys of a description's rows: one walk keeps exactly these, in the walk's order, and they are ordered as the rows are.
+use Prim.Native.Nat.{ℕ, _*_, _-_, _≤_}
 use native.Mathlib.Nat.{zero-add}
 use native.Mathlib.Omega.{arith}
 use mathlib.Core.Path.{_≡_, refl, sym, ap, ap₂, subst, subst₂, _∙_}
@@ -64,7 +64,7 @@ module _ (d : Description) (a : Admitted d) where
       ∙ sym (keep-map (padded d) (λ p. secure d p && stands d p) met') ∙ ap (keep (λ p. secure d p && stands d p)) (j .candidatesAre)
       ∙ sym (keep-both (secure d) (stands d) (candidates d))
 
-  -- the blocks of a placement that was met are that placement
+  -- the blocks of a padded placement that was met are that placement
   blocks-of : (q : List ℕ) → List·Memᴰ q met' → take n (padded d q) ≡ q
   blocks-of q m = take-at q (replicate (16 - n) 0) n (j .sized q m)
 
@@ -84,12 +84,12 @@ module _ (d : Description) (a : Admitted d) where
   rows-number : length (keep isRow met') ≡ length (rows d)
   rows-number = sym (length-map (keep isRow met') (padded d)) ∙ ap length standing-met ∙ sym (rows-length d)
 
-  -- no more rows than candidates
+  -- there are no more rows than candidates
   pub rows-few : length (rows d) ≤ count d
   rows-few =
       omega (arith, rows-number, two-parts isRow met', length-map met' (padded d), ap length (j .candidatesAre), count-is-length d)
 
-  -- A WALK THAT COUNTS KEEPS THE ROWS, in the walk's order, where there is room
+  -- A WALK THAT COUNTS KEEPS THE ROWS, in the walk's order, if there is room
   pub walk-keeps : (words : List ℕ) → keysNeeded d ≤ length words → keptOf d toCount words ≡ unsorted d ++ drop (keysNeeded d) words
   walk-keeps words h =
       kept-in-turn (tablesOf d) n toCount words
@@ -103,7 +103,7 @@ module _ (d : Description) (a : Admitted d) where
       let (q, k, f) = Memᴰ·of-map (padded d) (keep isRow met') (subst (List·Memᴰ p) (sym standing-met) m) in
       (q, keep-members isRow met' q .0 k .0, ap (rowOf d) f ∙ e)
 
-  -- NOTHING IS LOST IN PACKING: the clouds that a row's second word packs, with zeros behind them, are the row's sixteen bytes
+  -- NOTHING IS LOST IN PACKING: the clouds packed in a row's second word, followed by zeros, are the row's sixteen bytes
   pub words-row : (r : Row) → List·Memᴰ r (rows d) → digits n (rowKey d r .1) ++ replicate (16 - n) 0 ≡ r .placement
   unfolding rows
   words-row r m =

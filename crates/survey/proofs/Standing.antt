@@ -1,5 +1,5 @@
--- Which secure placements stand for their options: exactly one for each option, the first by cost and then bytes; and for a well formed
--- description the tests of `options` that look at one datum at a time tell which.
+-- Which secure placements represent their options: exactly one for each option, the first by cost and then bytes; and for a well-formed
+-- description the tests of `options` that look at one datum at a time decide which.
 use Prim.Native.Nat.{ℕ}
 use mathlib.Core.Path.{_≡_, sym, _∙_}
 use mathlib.Core.Logic.{_↔_, _⊎_}
@@ -32,7 +32,7 @@ module _ (d : Description) where
 
   -- ---- one for each option
 
-  -- For each option exactly one placement stands: the first by cost and then bytes.
+  -- Exactly one placement represents each option: the first by cost and then bytes.
   pub options-stand : Represented (sameOption d) (stands d) (securePlacements d)
   unfolding stands
   options-stand = least-represent (placement-order d) (sameOption-equivalence d) (securePlacements d)
@@ -45,7 +45,7 @@ module _ (d : Description) where
 
   -- ---- the same, by looking at one datum at a time
 
-  -- to stand is to be the first of the option
+  -- `stands` means to be the first of the option
   standing-first : (p : List ℕ) → (stands d p ≡ true) ↔ First d p
   unfolding stands
   standing-first p =
@@ -55,13 +55,13 @@ module _ (d : Description) where
       )
 
 module _ (d : Description) (w : WellFormed d) (p : List ℕ) (member : List·Memᴰ p (securePlacements d)) where
-  -- A secure placement of a well formed description stands for its option exactly where no datum does better on another cloud.
+  -- A secure placement of a well-formed description represents its option exactly if no datum does better on another cloud.
   pub stands-locally : stands d p ≡ standsLocally d p
   stands-locally =
       let first = standing-first d p in
       let local = local-is-global d w p (secure-members d p .0 member) in
       tests-agree (stands d p) (standsLocally d p) (λ t. local .1 (first .0 t), λ t. first .1 (local .0 t))
 
-  -- That is: exactly where no block is kept cheaper where it can move to.
+  -- That is: exactly if no block would be cheaper on the cloud it can move to.
   pub stands-by-exchanges : stands d p ≡ standsByExchanges d p
   stands-by-exchanges = stands-locally ∙ sym (exchanges-are-local d w p (secure-members d p .0 member))

@@ -40,7 +40,7 @@ use Rattle.survey.specs.Surveys.{toCount, toDraw}
 use Rattle.survey.proofs.Counting.{options-number, rows-length}
 use Rattle.survey.proofs.Drawing.{draw-walks}
 
--- the rows are as many as the candidates that are secure and stand
+-- there are as many rows as candidates that are secure and represent their options
 rows-number : (d : Description) → length (rows d) ≡ length (keep (λ p. secure d p && stands d p) (candidates d))
 unfolding securePlacements
 rows-number d = rows-length d ∙ ap length (keep-both (secure d) (stands d) (candidates d))
@@ -59,7 +59,7 @@ module _ (d : Description) (t : Tables) (j : Joined d t) where
   abbrev W : List ℕ → ℕ
   W q = weight t n q
 
-  -- a count over the placements met is the count over the candidates
+  -- a count over the placements that were met is the count over the candidates
   among : (test : List ℕ → Bool) (mine : List ℕ → Bool) → ((q : List ℕ) → List·Memᴰ q (met d t) → mine q ≡ test (padded d q))
       → length (keep mine (met d t)) ≡ length (keep test (candidates d))
   among test mine h =
@@ -69,11 +69,11 @@ module _ (d : Description) (t : Tables) (j : Joined d t) where
   abbrev T : List ℕ → Tests
   T q = testsOf t n q
 
-  -- the weight tells whether rules 16 and 17 are kept
+  -- the weight shows whether rules 16 and 17 are kept
   pub unexposed-is : (q : List ℕ) → List·Memᴰ q (met d t) → isUnexposed (W q) ≡ unexposed d (padded d q)
   unexposed-is q m = sym (weight-unexposed (W q)) ∙ ap (λ n. eqb n 0) (j .classIs q m) ∙ class-unexposed d (padded d q)
 
-  -- with both tests it tells the rows
+  -- together with both tests it shows which are rows
   pub is-row : (q : List ℕ) → List·Memᴰ q (met d t) → (isUnexposed (W q) && passes (T q)) ≡ (secure d (padded d q) && stands d (padded d q))
   is-row q m =
       ap₂ (λ x y. x && (y && standsBy t n q)) (unexposed-is q m) (j .apartIs q m) ∙
@@ -141,7 +141,7 @@ module _ (d : Description) (t : Tables) (j : Joined d t) where
   pub sees-options : getD counted rowsAt 0 ≡ census d .options
   sees-options = counted-at rowsAt (omega arith) (λ p. secure d p && stands d p) is-row ∙ zero-add _ ∙ sym (rows-number d) ∙ options-number d
 
-  -- ---- a walk that draws keeps the row that the draw answers, where numbers order placements and the floor is the cursor's
+  -- ---- a walk that draws keeps the row that the draw answers, if numbers order placements and the floor is the cursor's
 
   module _ (c : Cursor) (cost₀ place₀ : ℕ)
       (ordered : (q r : List ℕ) → List·Memᴰ q (met d t) → List·Memᴰ r (met d t) → before (padded d q) (padded d r) ≡ ltb (pack q) (pack r))

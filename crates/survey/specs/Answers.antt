@@ -1,4 +1,4 @@
--- What the three questions answer, in the words of the definitions.
+-- The answers to the three questions, in the words of the definitions.
 use mathlib.Core.Bool.{cond}
 use mathlib.Core.Option.{Option, none, some}
 use lib.ListN.{replicate}
@@ -22,7 +22,7 @@ figuresOf c = record {
 abbrev pub rowIn : Next → Option Row
 rowIn n = cond (n .found) (some (n .row)) none
 
--- where there is no row, all zeros stand in its place
+-- if there is no row, zeros are in its place
 abbrev pub zeroRow : Row
 zeroRow = record { cost = 0; placement = replicate 16 0; bill = record { storage = 0; transfer = 0; cpu = 0 } }
 

@@ -1,5 +1,5 @@
--- What makes tables those of a description: the placements that a walk over them meets, with zeros behind them, are its candidates, and
--- weights, conflict tests and row tests say of each what the rules say.
+-- When tables are those of a description: the placements that a walk over them meets, followed by zeros, are its candidates, and weights,
+-- conflict tests and row tests say of each what the rules say.
 use Prim.Native.Nat.{ℕ, _<_}
 use mathlib.Core.Path.{_≡_}
 use mathlib.Core.Bool.{true, not}

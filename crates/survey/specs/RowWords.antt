@@ -13,10 +13,10 @@ use Rattle.survey.specs.Rows.{securePlacements, rowOf, stands, rows}
 abbrev pub rowKey : Description → Row → ℕ × ℕ
 rowKey d r = (r .cost, pack (take (length (d .blocks)) (r .placement)))
 
--- how many words all keys are
+-- how many words all keys take
 abbrev pub keysNeeded : Description → ℕ
 keysNeeded d = length (rows d) * 2
 
--- the keys of the rows as a walk meets them: by their placements' bytes alone
+-- the keys of the rows in the order in which a walk meets them: by the bytes of their placements alone
 unfoldable pub unsorted : Description → List ℕ
 unsorted d = flat (map (λ p. rowKey d (rowOf d p)) (keep (stands d) (securePlacements d)))

@@ -1,4 +1,4 @@
--- Census, rows and draw, of an accepted description.
+-- Census, rows and draw, for an accepted description.
 use Prim.Native.Nat.{ℕ}
 use mathlib.Core.Bool.{Bool, not, _&&_, _||_}
 use mathlib.Core.List.{List, _∷_, map}
@@ -16,7 +16,7 @@ use Rattle.sequences.specs.Lists.{any, keep, find, distinctBy, before, sort}
 unfoldable pub securePlacements : Description → List (List ℕ)
 securePlacements d = keep (secure d) (candidates d)
 
--- Census. How many different options there are: of placements that are the same one, only the last is counted.
+-- Census. How many different options there are: of the placements of one option, only the last is counted.
 abbrev pub distinct : Description → List (List ℕ) → List (List ℕ)
 distinct d = distinctBy (sameOption d)
 
@@ -38,14 +38,14 @@ census d = record {
   options = length (distinct d (securePlacements d));
 }
 
--- Rows come by cost and then by their sixteen bytes, compared from the first; their bills have no part in it.
+-- Rows are ordered by cost and then by their sixteen bytes, compared from the first; their bills do not matter.
 abbrev pub earlier : Row → Row → Bool
 earlier r s = before (r .cost ∷ r .placement) (s .cost ∷ s .placement)
 
 abbrev pub rowOf : Description → List ℕ → Row
 rowOf d p = record { cost = cost d p; placement = p; bill = billOf d p }
 
--- p stands for its option: no secure placement of the same option is earlier by cost and then bytes
+-- p represents its option: no secure placement of the same option is earlier by cost and then bytes
 unfoldable pub stands : Description → List ℕ → Bool
 stands d p = not (any (λ q. sameOption d q p && earlier (rowOf d q) (rowOf d p)) (securePlacements d))
 
@@ -53,13 +53,13 @@ stands d p = not (any (λ q. sameOption d q p && earlier (rowOf d q) (rowOf d p)
 unfoldable pub rows : Description → List Row
 rows d = sort earlier (map (rowOf d) (keep (stands d) (securePlacements d)))
 
--- a cost and sixteen bytes are strictly later than a cursor; a row is by its own
+-- a cost and sixteen bytes are strictly later than a cursor; the same for a row's cost and placement
 abbrev pub isPast : Cursor → (cost : ℕ) (placement : List ℕ) → Bool
 isPast c cost placement = c .start || before (c .cost ∷ c .placement) (cost ∷ placement)
 
 abbrev pub later : Cursor → Row → Bool
 later c r = isPast c (r .cost) (r .placement)
 
--- Draw: the first row strictly later than the cursor; none: finished
+-- Draw: the first row strictly later than the cursor; none means finished
 unfoldable pub draw : Description → Cursor → Option Row
 draw d c = find (later c) (rows d)

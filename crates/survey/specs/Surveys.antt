@@ -21,14 +21,14 @@ toCount = 0 ∷ 0 ∷ 0 ∷ 0 ∷ 0 ∷ 1 ∷ 0 ∷ 0 ∷ 0 ∷ 0 ∷ []
 abbrev pub toDraw : (floor place : ℕ) → List ℕ
 toDraw floor place = 0 ∷ 0 ∷ 0 ∷ 0 ∷ 0 ∷ 0 ∷ floor ∷ place ∷ costLimit ∷ 0 ∷ []
 
--- what is in the words after a walk over all placements, and in those that are lent for the rows
+-- the words after a walk over all placements, and those that are lent for the rows
 abbrev pub seenOf : Description → List ℕ → List ℕ
 seenOf d s = seeAll (tablesOf d) (length (d .blocks)) s
 
 abbrev pub keptOf : Description → List ℕ → List ℕ → List ℕ
 keptOf d s words = keepAll (tablesOf d) (length (d .blocks)) s words
 
--- the words ask to draw, and their floor is the cursor: a row of n blocks is past the cursor where it is not before the floor
+-- the words ask to draw, and their floor is the cursor: a row of n blocks is past the cursor exactly if it is not before the floor
 pub record Asks (c : Cursor) (n : ℕ) (s : List ℕ) : Type 0 where
   pub floor : ℕ
   pub place : ℕ

@@ -36,16 +36,16 @@ use weights::CLASHES;
 use weights::COST_LIMIT;
 use weights::SECURE;
 
-// Document 01's "row": the cost and the sixteen cloud numbers of the placement that stands for its option; and its bill, whose three
-// amounts add up to the cost.
+// The scope's "row": the cost and the sixteen cloud numbers of the placement that represents its option, and its bill, whose three amounts add up to
+// the cost.
 pub struct Row {
     pub cost: u64,
     pub placement: [u8; 16],
     pub bill: Bill,
 }
 
-// Where a draw goes on: at the start, or past a cost and sixteen bytes. The start is told by `start` alone: cost 0 with sixteen
-// zeros is a cursor like any other.
+// Where a draw continues: from the start, or past a cost and sixteen bytes. Only `start` marks the start: cost 0 with sixteen zeros is a
+// cursor like any other.
 pub struct Cursor {
     pub start: bool,
     pub cost: u64,
@@ -62,7 +62,7 @@ pub struct Figures {
     pub options: u64,
 }
 
-// The first row past a cursor, if there is one; otherwise zeros stand in its place.
+// The first row past a cursor, if there is one; otherwise there are zeros in its place.
 pub struct Next {
     pub found: bool,
     pub row: Row,
@@ -82,7 +82,7 @@ fn walk_over(w: &Words, masks: &Masks, state: &mut State, kept: &mut [u64])
     walk_all(&words, &bytes, block_count(w), state, kept);
 }
 
-// The same; where a block may stand nowhere there is nothing to meet, and the walk would try all clouds of the blocks before it.
+// The same; if a block may stand nowhere there is nothing to meet, but the walk would try all clouds of the blocks before it.
 fn walk_candidates(w: &Words, masks: &Masks, candidates: u64, state: &mut State, kept: &mut [u64])
     requires { ⌜ Admitted (describes (now w)) ⌝ }
     requires { ⌜ (candidates ≡ count (describes (now w))) × (now masks ≡ masksOf (describes (now w))) ⌝ }
@@ -144,7 +144,7 @@ fn to_draw_past(cursor: Cursor, blocks: usize) -> State
     to_draw(cursor.cost, floor_place(bytes, blocks))
 }
 
-// What stands where there is no row.
+// What is in the place of a row if there is none.
 pub fn zero_row() -> Row
     ensures { λ r. ⌜ r ≡ zeroRow ⌝ }
 {
@@ -189,7 +189,7 @@ pub fn row_past(w: &Words, masks: &Masks, candidates: u64, cursor: Cursor) -> Ne
     }
 }
 
-// The keys of all rows, in the order of the walk; and how many they are.
+// The keys of all rows, in the order of the walk; and how many there are.
 pub fn keep_rows(w: &Words, masks: &Masks, candidates: u64, keys: &mut [u64]) -> usize
     requires { ⌜ Admitted (describes (now w)) ⌝ }
     requires { ⌜ (candidates ≡ count (describes (now w))) × (now masks ≡ masksOf (describes (now w))) ⌝ }

@@ -1,4 +1,4 @@
--- The tables of a well-formed description: they are what the walk asks for, a placement weighs by them what it weighs by the
+-- The tables of a well-formed description: they are what the walk asks for, a placement has the same weight by them as by the
 -- description, and the placements by them are the candidates.
 use Prim.Native.Nat.{ℕ, _+_, _-_, _*_, _/_, _%_, _≤_, _<_}
 use native.Mathlib.Omega.{arith}
@@ -86,7 +86,7 @@ module _ (d : Description) where
       term-in d (i * 64 + x * 8 + y) ∙ getD-table 2048 (termAt d) (i * 64 + x * 8 + y) (omega (arith, few .edges, few .clouds)) ∙
       rw (a, b, c) (simp (lt-ltb i (length (d .edges)) h, lt-ltb x (length (d .clouds)) l, lt-ltb y (length (d .clouds)) k))
 
-  -- by its own ends, the later one first or not
+  -- by its own ends, whichever is the later one
   turned : (e : Edge) (q : List ℕ) → termOf d e (getD q (later e) 0) (getD q (other e) 0) ≡ edgeTerm d e (getD q (e .service) 0) (getD q (e .datum) 0)
   unfolding termOf
   turned e q = go (ltb (e .service) (e .datum))
@@ -192,7 +192,7 @@ module _ (d : Description) (wf : WellFormed d) where
         ap (λ (n : ℕ). sum (map (termIn (tablesOf d) q) (below n))) all ∙
         ap sum (map-below (termIn (tablesOf d) q) (λ i. added (edgeIn d i)) (length (d .edges)) at-place) ∙ edges-sum added
 
-    -- a placement of the blocks weighs by the tables what it weighs, as sixteen clouds, by the description
+    -- a placement of the blocks has the same weight by the tables as its sixteen clouds have by the description
     pub weights : weight (tablesOf d) (length (d .blocks)) q ≡ weightOf d (padded d q)
     unfolding added
     weights = weight-of (tablesOf d) (length (d .blocks)) q ∙ ap₂ _+_ own-sum edge-sum ∙ sym (weight-terms d (padded d q))
@@ -212,7 +212,7 @@ module _ (d : Description) (wf : WellFormed d) where
       let n = length (d .blocks) in
       placements-of (tablesOf d) n ∙ ap bitChoices (map-below (mask (tablesOf d)) (maskOf d) n mask-of-block ∙ sym (block-masks d (wf .limits)))
 
-  -- so as sixteen clouds they are the candidates, in the same order
+  -- so, as sixteen clouds, they are the candidates, in the same order
   pub placements-are : map (padded d) (placements (tablesOf d) (length (d .blocks))) ≡ candidates d
   placements-are = ap (map (padded d)) placements-by-masks ∙ masks-choose d (wf .limits) .exactly
 

@@ -1,4 +1,4 @@
--- The table of conflicts: which blocks it lists, that there is room for them, and that two of them share a cloud exactly where a pair is
+-- The table of conflicts: which blocks it lists, that there is room for them, and that two of them share a cloud exactly if a pair is
 -- broken.
 use Prim.Native.Nat.{ℕ, suc, _+_, _-_, _*_, _/_, _%_, _≤_, _<_}
 use native.Mathlib.Decide.{decLe}
@@ -25,7 +25,6 @@ use Rattle.sequences.proofs.Numbers.{kept-most}
 use Rattle.sequences.proofs.Tests.{both-pass, one-passes, and-fails}
 use Rattle.visit.specs.Tables.{conflictCount, conflict, clashes, apart}
 use Rattle.visit.proofs.Defined.{apart-where}
-use Rattle.sequences.specs.Arrays.{table}
 use Rattle.security.specs.Masks.{padded}
 use Rattle.tables.specs.Building.{Listed, isConflict, conflictsTo, conflictList, conflictsOf, exchangesOf, bytesOf, tablesOf}
 use Rattle.sequences.proofs.Filling.{getD-table, table-zeros}
@@ -38,7 +37,7 @@ use Rattle.tables.proofs.Places.{conflict-in}
 abbrev later-first : ℕ → Bool
 later-first c = leb (c % 16) (c / 16)
 
--- so many there are of sixteen blocks
+-- how many there are for sixteen blocks
 later-number : length (keep later-first (below 256)) ≡ 136
 later-number = refl
 
@@ -46,7 +45,7 @@ module _ (d : Description) where
   abbrev either-way : ℕ → Bool
   either-way c = conflicts d (c / 16) (c % 16) || conflicts d (c % 16) (c / 16)
 
-  -- there are never more conflicts
+  -- there are never more conflicts than that
   pub conflicts-few : (n : ℕ) → n ≤ 256 → length (conflictsTo d n) ≤ 136
   conflicts-few n h =
       let kept = keep later-first (below n) in
@@ -58,7 +57,7 @@ module _ (d : Description) where
         later-number,
       )
 
-  -- a conflict is of two blocks
+  -- a conflict is between two blocks
   conflict-of : (c : ℕ) → List·Memᴰ c (conflictList d)
       → (c / 16 < length (d .blocks)) × (c % 16 ≤ c / 16) × ((conflicts d (c / 16) (c % 16) ≡ true) ⊎ (conflicts d (c % 16) (c / 16) ≡ true))
   unfolding conflictList
@@ -81,7 +80,7 @@ module _ (d : Description) where
       none t [] e = refl
       none t (x ∷ l) e = absurd (omega arith)
 
-  -- a list behind its length is the table
+  -- a list after its length is the table
   pub conflicts-laid : {a b : List ℕ} {n : ℕ} → Listed 136 (conflictList d) a n → b ≡ n ∷ a → b ≡ conflictsOf d
   unfolding conflictsOf
   conflicts-laid l e = e ∙ ap₂ _∷_ (l .ends) (list-ends l)
@@ -133,7 +132,7 @@ module _ (d : Description) where
         let (first, second, _) = conflict-of (getD (conflictList d) i 0) (at-member 0 (conflictList d) i there) in
         rw (conflict-is i there) (first, omega arith)
 
-    -- two blocks of a conflict share a cloud exactly where a pair is broken
+    -- two blocks of a conflict share a cloud exactly if a pair is broken
     module _ (q : List ℕ) (m : List·Memᴰ (padded d q) (candidates d)) where
       abbrev some-clash : Bool
       some-clash = any (clashes (tablesOf d) q) (below (conflictCount (tablesOf d)))

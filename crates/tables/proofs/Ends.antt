@@ -1,4 +1,4 @@
--- The two ends of an edge: the other one is not behind the later one, and both are blocks.
+-- The two ends of an edge: the other end is not after the later one, and both are blocks.
 use Prim.Native.Nat.{ℕ, _≤_, _<_}
 use native.Mathlib.Omega.{arith}
 use mathlib.Core.Path.{_≡_, refl}

@@ -1,4 +1,4 @@
--- The table of exchanges: by the other tables it is what the description says, and a bit of it says where a datum would do better.
+-- The table of exchanges: made from the other tables it is what the description says, and its bits say where a datum would do better.
 use Prim.Native.Nat.{ℕ, zero, suc, _+_, _-_, _*_, _/_, _%_, _≤_, _<_}
 use native.Mathlib.Nat.{zero-add, add-mul, mul-zero, mul-one, mul-assoc, mul-le-mul, le-refl}
 use native.Mathlib.Decide.{decLt}
@@ -29,8 +29,8 @@ use Rattle.sequences.specs.Bits.{bit}
 use Rattle.visit.specs.Tables.{tables, exchange}
 use Rattle.sequences.specs.Bits.{bits}
 use Rattle.security.specs.Masks.{maskOf}
-use Rattle.tables.specs.Building.{ownOf, only, ofPair, pairAt, exchangeBits, exchangeAt, exchangesOf}
-use Rattle.tables.specs.Building.{keptLonger, turnedOf, deciding, decidingBy, betterBy, bitsBy, mayExchange, exchangeBy, exchangesBy, wordsOf, bytesOf, tablesOf}
+use Rattle.tables.specs.Building.{ownOf, only, ofPair, pairAt, exchangeBits, exchangeAt, exchangesOf, keptLonger, turnedOf, deciding}
+use Rattle.tables.specs.Building.{decidingBy, betterBy, bitsBy, mayExchange, exchangeBy, exchangesBy, wordsOf, bytesOf, tablesOf}
 use Rattle.sequences.proofs.Bits.{bit-bits, bits-same, bits-cut}
 use Rattle.sequences.proofs.Filling.{getD-table, getD-tableTo, tableTo-same}
 use Rattle.tables.proofs.Places.{own-in, mask-in, last-in, other-last}
@@ -43,7 +43,7 @@ nothing-more true t = refl
 nothing-more false true = refl
 nothing-more false false = refl
 
--- the first numbers decide, and of equal ones the second
+-- the first numbers decide, and if they are equal, the second
 pub pairs-tie : (x y k h : ℕ) → x ≡ y → before (x ∷ k ∷ []) (y ∷ h ∷ []) ≡ ltb k h
 pairs-tie x y k h e = simp (le-ltb x y (omega arith), eq-eqb x y e) (nothing-more (ltb k h) (eqb k h))
 
@@ -56,7 +56,7 @@ where-passed : (t : Bool) (x y : ℕ) → (t ≡ true → x ≡ y) → cond t x 
 where-passed true x y h = h refl
 where-passed false x y h = refl
 
--- where an entry has no exchange, the rest of its row has none
+-- if an entry has no exchange, the rest of its row has none
 pub none-after : (bytes : List ℕ) (clouds i j : ℕ) → mayExchange bytes clouds i ≡ false → i % 8 ≤ j % 8 → j / 8 ≡ i / 8 → mayExchange bytes clouds j ≡ false
 none-after bytes clouds i j h l row = elim (decLt (j % 8) clouds) [
   | yes there ↦
@@ -81,7 +81,7 @@ mask-is d last b low = mask-in d last b low ∙ mask-at d b low
 
 -- ---- what decides between two ends
 
--- with more than one of each, a difference of a and b is not turned by one of the other
+-- if a < b and n is at least 2, then a * n is below b * n by more than b exceeds a
 more-apart : (a b n : ℕ) → 2 ≤ n → a < b → (a * n < b * n) × (a * n + b < b * n + a)
 more-apart a b n two low =
     let whole : b ≡ a + (b - a) = omega arith in
@@ -96,7 +96,7 @@ copies-pass a b n xs ys two =
     before-as a b (a * n + b) (b * n + a) xs ys (λ l. more-apart a b n two l .1) (λ e. tied e .1) (λ h. more-apart b a n two h .1) ∙
     sym (before-as a b (a * n) (b * n) xs ys (λ l. more-apart a b n two l .0) (λ e. tied e .0) (λ h. more-apart b a n two h .0))
 
--- What decides puts two ends in the order of what both cost.
+-- Comparing what decides orders two ends as comparing all that they cost does.
 decides : (c e : Cloud) (kind : Kind) (xs ys : List ℕ)
     → before (deciding kind c e ∷ xs) (deciding kind e c ∷ ys) ≡ before ((storageOf c kind + copyOf e kind) ∷ xs) ((storageOf e kind + copyOf c kind) ∷ ys)
 decides c e (Datum size zero) xs ys =
@@ -140,14 +140,14 @@ module _ (d : Description) (wf : WellFormed d) where
       let r : 2 * m % 2 ≡ 0 = omega arith in
       ap₂ (λ (a b : ℕ). ofPair (only d Writes a) (only d Reads a) b) q r
 
-  -- a datum, by its mask
+  -- for a datum, by its mask
   better-is : (last : List ℕ) (m h k : ℕ) → m < length (d .blocks) → k < 8 → betterBy d (getD (bytesOf d last) (81 + m) 0) m h k ≡ exchanges d m h k
   better-is last m h k there klow =
       let low : m < 16 = omega (arith, wf .limits .blocks) in
       ap₂ _&&_ (ap (λ (x : ℕ). bit x k) (mask-is d last m low) ∙ mask-stands d m k there klow)
       (decides (cloud d k) (cloud d h) (block d m .kind) (k ∷ []) (h ∷ [])) ∙ sym (exchanges-are d m h k)
 
-  -- nowhere but on declared clouds
+  -- only on declared clouds
   no-exchange : (m h k : ℕ) → m < length (d .blocks) → length (d .clouds) ≤ k → exchanges d m h k ≡ false
   no-exchange m h k there past = exchanges-are d m h k ∙ simp (no-cloud d m k there past)
 
@@ -184,7 +184,7 @@ module _ (d : Description) (wf : WellFormed d) where
       rw (quo, rem) (simp (lt-ltb h (length (d .clouds)) declared, lt-ltb (pairAt d (2 * m)) 16 first, stands)) in
       ap (λ (x : ℕ). bit x k) (last-in d (exchangesOf d) i ∙ entry) ∙ bit-bits (exchanges d m h) 0 8 k klow ∙ ap (exchanges d m h) (zero-add k)
 
-  -- ---- all tables, once the exchanges are laid behind the others
+  -- ---- all tables, with the exchanges after the others
 
   pub tables-are : {words before after : List ℕ} {blocks clouds : ℕ} → words ≡ wordsOf d → before ≡ bytesOf d (replicate 128 0)
       → blocks ≡ length (d .blocks) → clouds ≡ length (d .clouds)

@@ -11,7 +11,7 @@ use Rattle.sequences.proofs.Filling.{Filled, length-table, getD-table}
 use Rattle.sequences.proofs.Indexing.{zeros-at}
 use Rattle.tables.specs.Building.{Listed, sidesTogether, RowFilled}
 
--- a row of eight whose first m are stored, and the others 0
+-- a row of eight: the first m are stored, and the others are 0
 pub fill-row : {n : ℕ} {f : ℕ → ℕ} {sides a b : List ℕ} {m r : ℕ} → Filled n f a (r * 8) → RowFilled sides m r a b → r * 8 + 8 ≤ n
     → ((y : ℕ) → y < m → sidesTogether sides (r % 8) y ≡ f (r * 8 + y)) → ((j : ℕ) → r * 8 + m ≤ j → j < r * 8 + 8 → f j ≡ 0) → m ≤ 8
     → Filled n f b ((r + 1) * 8)
@@ -33,7 +33,7 @@ fill-row {f = f} {b = b} {m = m} {r = r} k row h same none few = record {
       | no p ↦ row .others j (λ a b. p b) ∙ k .left j l ∙ sym (none j (omega arith) u)
     ]
 
--- an array with a list in front
+-- an array that begins with a list
 
 module _ {n : ℕ} where
   pub list-lent : {a : List ℕ} → a ≡ replicate n 0 → Listed n [] a 0

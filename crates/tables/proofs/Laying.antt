@@ -1,4 +1,4 @@
--- The tables are laid one behind the other: each in a part of the words or bytes that was lent, full of zeros, and comes back with the table.
+-- The tables lie one after the other: each is filled in a part of the words or bytes, which is lent full of zeros and returned with the table.
 use Prim.Native.Nat.{ℕ, _+_, _≤_, _<_}
 use native.Mathlib.Nat.{zero-lt-suc}
 use native.Mathlib.Omega.{arith}
@@ -39,7 +39,7 @@ zeros-split : (m n : ℕ) → zeros (m + n) ≡ zeros m ++ zeros n
 unfolding zeros
 zeros-split m n = sym (replicate-append-replicate {A = ℕ} m n 0)
 
--- a part that is lent full of zeros, and what it is a part of when it comes back with a table
+-- a part that is lent full of zeros, and the whole after it was returned with a table
 module _ (xs zs : List ℕ) (n m : ℕ) {s : List ℕ} (all : s ≡ xs ++ (zeros m ++ zs)) (front : length xs ≡ n) where
   zeros-lent : take m (drop n s) ≡ replicate m 0
   unfolding zeros
@@ -48,7 +48,7 @@ module _ (xs zs : List ℕ) (n m : ℕ) {s : List ℕ} (all : s ≡ xs ++ (zeros
   table-back : {vs ws : List ℕ} → vs ≡ ws → put n m s vs ≡ xs ++ (ws ++ zs)
   table-back e = part-back xs (zeros m) zs n m all front (zeros-size m) e
 
--- so many elements and those behind them, of which there are more
+-- the length is enough for the front and the part
 enough : {s : List ℕ} (xs zs : List ℕ) (n m : ℕ) → s ≡ xs ++ (zeros m ++ zs) → length xs ≡ n → n + m ≤ length s
 enough xs zs n m all front =
     omega (arith, ap length all, length-append xs (zeros m ++ zs), length-append (zeros m) zs, zeros-size m, front)
@@ -79,7 +79,7 @@ module _ (d : Description) {s : List ℕ} (lent : s ≡ replicate 2176 0) where
     pub words-laid : {terms : List ℕ} → terms ≡ termsOf d → put 128 2048 (put 0 128 s own) terms ≡ wordsOf d
     words-laid t = table-back (ownOf d) [] 128 2048 words-second (own-size d) t ∙ ap (λ (l : List ℕ). ownOf d ++ l) (append-nil (termsOf d))
 
--- ---- the conflicts: their number, and behind it the list
+-- ---- the conflicts: their number, and then the list
 
 module _ {s : List ℕ} (lent : s ≡ replicate 137 0) (vs : List ℕ) where
   pub list-room : 137 ≤ length s

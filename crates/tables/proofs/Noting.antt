@@ -1,4 +1,4 @@
--- The services of each datum's edges, noted edge by edge: what one more edge changes, and the only service that is noted in the end.
+-- The services of each datum's edges, noted edge by edge: what one more edge changes, and the only service that is noted at the end.
 use Prim.Native.Nat.{ℕ, _+_, _-_, _≤_, _<_}
 use native.Mathlib.Numerals.{add-one}
 use native.Mathlib.Decide.{ℕ-discrete}
@@ -26,7 +26,7 @@ noted-more [] e = refl
 noted-more (x ∷ []) e = sym (simp (ne-eqb (x .service + 1) 0 (λ h. omega arith)))
 noted-more (x ∷ y ∷ es) e = refl
 
--- what is noted tells the only service
+-- the note gives the only service
 pub only-noted : (es : List Edge) → ((e : Edge) → es ≡ e ∷ [] → e .service < 254) → onlyIn (noted es) ≡ onlyOf es
 only-noted [] low = refl
 only-noted (e ∷ []) low =
@@ -35,7 +35,7 @@ only-noted (e ∷ []) low =
     simp (ne-eqb (e .service + 1) 0 (λ h. omega arith), ne-eqb (e .service + 1) 255 (λ h. omega arith)) back
 only-noted (e ∷ f ∷ es) low = refl
 
--- of the first i edges, those of each datum are noted
+-- those of the first i edges are noted, for each datum
 pub record Noted (d : Description) (way : Way) (a : List ℕ) (i : ℕ) : Type 0 where
   pub size : length a ≡ 16
   pub entry : (m : ℕ) → m < 16 → getD a m 0 ≡ noted (keep (isOf way m) (take i (d .edges)))

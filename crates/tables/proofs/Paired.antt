@@ -1,4 +1,4 @@
--- The data between one writer and one reader: their two services are blocks. With the conflicts they are what the tests of a placement ask.
+-- The data between one writer and one reader: their two services are blocks. With the conflicts, this is what the tests of a placement ask.
 use Prim.Native.Nat.{ℕ, zero, suc, _+_, _*_, _/_, _%_, _<_}
 use native.Mathlib.Omega.{arith}
 use mathlib.Core.Path.{_≡_, refl, ap, ap₂, _∙_}
@@ -42,7 +42,7 @@ only-low n [] p = inl refl
 only-low n (e ∷ []) p = inr (p .0)
 only-low n (e ∷ f ∷ es) p = inl refl
 
--- a pair is 255 where one of the two is, and else the two
+-- a pair is 255 if either of the two is, and otherwise the two
 pub pair-none : (a b r : ℕ) → (a ≡ 255) ⊎ (b ≡ 255) → ofPair a b r ≡ 255
 pair-none a b r h = go r (⊎-elim (λ p. inl (eq-eqb a 255 p)) (λ p. inr (eq-eqb b 255 p)) h)
   where
@@ -71,7 +71,7 @@ first-low a b = go (eqb a 255 || eqb b 255)
     go true h = absurd (omega arith)
     go false h = h
 
--- both of a pair are low where one of the two is
+-- both of a pair are low if the first is
 both-low : (n a b : ℕ) → (a ≡ 255) ⊎ (a < n) → (b ≡ 255) ⊎ (b < n) → ofPair a b 0 < 16 → (ofPair a b 0 < n) × (ofPair a b 1 < n)
 both-low n a b (inl p) h l = absurd (let e = ap (λ (t : Bool). cond (t || eqb b 255) 255 a) (eq-eqb a 255 p) in omega arith)
 both-low n a b (inr p) (inl h) l = absurd (third (eqb a 255) (eqb b 255) (eq-eqb b 255 h) l)
@@ -95,7 +95,7 @@ module _ (d : Description) (wf : WellFormed d) where
       only-low (length (d .blocks)) (keep (isOf way m) (d .edges))
       (every-kept (λ (e : Edge). e .service < length (d .blocks)) (isOf way m) (d .edges) services-low)
 
-  -- the entries of datum m, whatever lies behind the pairs
+  -- the entries of datum m, whatever lies after the pairs
   pub first-of-pair : (last : List ℕ) (m : ℕ) → m < length (d .blocks)
       → getD (bytesOf d last) (97 + 2 * m) 0 ≡ ofPair (only d Writes m) (only d Reads m) 0
   unfolding pairsOf

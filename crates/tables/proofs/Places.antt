@@ -1,4 +1,4 @@
--- What stands where in the tables of a description, which lie one behind the other.
+-- The entries of a description's tables, which lie one after the other.
 use Prim.Native.Nat.{ℕ, zero, suc, _+_, _<_}
 use native.Mathlib.Omega.{arith}
 use mathlib.Core.Path.{_≡_, sym, ap, _∙_}
@@ -68,7 +68,7 @@ module _ (d : Description) where
   pub term-in : (i : ℕ) → getD (wordsOf d) (128 + i) 0 ≡ getD (termsOf d) i 0
   term-in i = behind (ownOf d) (termsOf d) 128 i own-size
 
-  -- in the bytes, whatever lies behind the first five
+  -- in the bytes, whatever lies after the first five
   module _ (last : List ℕ) where
     in-five : (i : ℕ) → i < 266 → getD (bytesOf d last) i 0 ≡ getD (endsOf d ++ startsOf d ++ masksOf d ++ pairsOf d ++ conflictsOf d) i 0
     in-five i h = in-front (endsOf d ++ startsOf d ++ masksOf d ++ pairsOf d ++ conflictsOf d) last 266 i five-size h
@@ -103,6 +103,6 @@ module _ (d : Description) where
     pub last-part : drop 266 (bytesOf d last) ≡ last
     last-part = drop-at (endsOf d ++ startsOf d ++ masksOf d ++ pairsOf d ++ conflictsOf d) last 266 five-size
 
-    -- with another table behind them
+    -- with another table after them
     pub other-last : (new : List ℕ) → take 266 (bytesOf d last) ++ new ≡ bytesOf d new
     other-last new = ap (λ (l : List ℕ). l ++ new) (take-at (endsOf d ++ startsOf d ++ masksOf d ++ pairsOf d ++ conflictsOf d) last 266 five-size)

@@ -30,7 +30,7 @@ use Rattle.tables.proofs.Exchanging.{exchange-bit}
 use Rattle.sequences.proofs.Indexing.{getD-padded}
 use Rattle.tables.proofs.Paired.{first-of-pair, second-of-pair}
 
--- of one writer and one reader, which are blocks, the numbers of the two; otherwise a number that is no block
+-- if there is one writer and one reader, both blocks, their two numbers; otherwise a number that no block has
 paired : (writers readers : List Edge) (q p : List ℕ) (b : ℕ) → ((i : ℕ) → getD p i 0 ≡ getD q i 0)
     → ((e : Edge) → List·Memᴰ e writers → e .service < 16) → ((e : Edge) → List·Memᴰ e readers → e .service < 16)
     → cond (ltb (ofPair (onlyOf writers) (onlyOf readers) 0) 16)
@@ -60,7 +60,7 @@ end-low a c b k ha hc = go (eqb a c) (eqb b a) (eqb b c)
     go false false true e = one a ha e
     go false false false e = absurd (Option·some-ne-none k (sym e))
 
--- what moves between two has a pair, and goes to a cloud
+-- what moves between two has a pair, and moves to a cloud
 moved : (s : Bool) (a c b k : ℕ) → a < 8 → c < 8 → cond s (otherEnd a c b) none ≡ some k → (s ≡ true) × (k < 8)
 moved true a c b k ha hc e = (refl, end-low a c b k ha hc e)
 moved false a c b k ha hc e = absurd (Option·some-ne-none k (sym e))
@@ -70,14 +70,14 @@ module _ (d : Description) (w : WellFormed d) (q : List ℕ) (low : (i : ℕ) �
   abbrev p : List ℕ
   p = padded d q
 
-  -- zeros behind a placement change no cloud of it
+  -- zeros after a placement change no cloud of it
   padded-at : (i : ℕ) → getD p i 0 ≡ getD q i 0
   padded-at i = getD-padded q (16 - length (d .blocks)) i
 
   service-low : (test : Edge → Bool) (e : Edge) → List·Memᴰ e (keep test (d .edges)) → e .service < 16
   service-low test e m = block-low d w (e .service) (service-named d (e .service) (edge-service d w e (keep-members test (d .edges) e .0 m .0)) .0)
 
-  -- the writer and the reader of datum m, where it has one of each
+  -- the writer and the reader of datum m, if it has one of each
   abbrev pairOf : (m r : ℕ) → ℕ
   pairOf m r = ofPair (only d Writes m) (only d Reads m) r
 

@@ -56,11 +56,11 @@ countBefore late n k = length (keep (λ e. ltb (late e) k) (below n))
 abbrev pub edgesBefore : Description → ℕ → ℕ
 edgesBefore d = countBefore (lateIn d) (length (d .edges))
 
--- at k, up to the number of blocks
+-- at k, for each k up to the number of blocks
 unfoldable pub startsOf : Description → List ℕ
 startsOf d = tableTo 17 (length (d .blocks) + 1) (edgesBefore d)
 
--- the first n of some lists, one behind the other
+-- the first n of some lists, one after the other
 unfoldable pub joined : (ℕ → List ℕ) → ℕ → List ℕ
 joined g zero = []
 joined g (suc n) = joined g n ++ g n
@@ -69,11 +69,11 @@ joined g (suc n) = joined g n ++ g n
 abbrev pub group : (ℕ → ℕ) → (n k : ℕ) → List ℕ
 group late n k = keep (λ e. eqb (late e) k) (below n)
 
--- while that list is made: the groups below k of n numbers, and of group k what the first e numbers have
+-- while that list is made: the groups below k of n numbers, and those of the first e numbers that are in group k
 unfoldable pub gathered : (ℕ → ℕ) → (n k e : ℕ) → List ℕ
 gathered late n k e = joined (group late n) k ++ group late e k
 
--- an array of n entries has a list in front, of so many elements, and 0 behind it
+-- an array of n entries begins with a list of `count` elements, and then has 0
 pub record Listed (n : ℕ) (l a : List ℕ) (count : ℕ) : Type 0 where
   pub size : length a ≡ n
   pub ends : count ≡ length l
@@ -90,12 +90,12 @@ ordered d = table 32 (λ i. getD (orderOf d) i 0)
 abbrev pub edgeIn : Description → ℕ → Edge
 edgeIn d i = edge d (getD (orderOf d) i 0)
 
--- of two numbers the first, or the second
+-- the first or the second of two numbers
 abbrev pub pick : (a b : ℕ) → ℕ → ℕ
 pick a b zero = a
 pick a b (suc i) = b
 
--- its later end, and how far a packed placement is shifted from there to the other one: three bits for each block between
+-- its later end, and the shift of a packed placement from there to the other end: three bits for each block between
 abbrev pub endOf : Edge → ℕ → ℕ
 endOf e = pick (later e) (3 * (later e - other e))
 
@@ -111,24 +111,24 @@ abbrev pub isDatumEnd : Edge → ℕ → Bool
 isDatumEnd e zero = ltb (e .service) (e .datum)
 isDatumEnd e (suc i) = not (ltb (e .service) (e .datum))
 
--- what that end adds on a cloud, where the other stands elsewhere
+-- what that end adds on a cloud, if the other stands elsewhere
 unfoldable pub sideOn : Edge → Block → Cloud → (end : ℕ) → ℕ
 sideOn e datum c end = cond (isDatumEnd e end) (datumSide (e .way) c datum) (serviceSide (e .way) c datum)
 
 abbrev pub sideOf : Description → Edge → (end k : ℕ) → ℕ
 sideOf d e end k = sideOn e (block d (e .datum)) (cloud d k) end
 
--- an array of the sides of an edge: of end i / 8 on cloud i % 8, where that is declared
+-- an array of the sides of an edge: of end i / 8 on cloud i % 8, if that cloud is declared
 pub record Sides (d : Description) (e : Edge) (a : List ℕ) : Type 0 where
   pub size : length a ≡ 16
   pub small : AllBelow (termLimit) a
   pub side : (i : ℕ) → i < 16 → i % 8 < length (d .clouds) → getD a i 0 ≡ sideOf d e (i / 8) (i % 8)
 
--- what an edge adds with its ends on clouds x and y, by its sides: 0 where both stand together
+-- what an edge adds with its ends on clouds x and y, by its sides: 0 if both stand on one cloud
 abbrev pub sidesTogether : List ℕ → (x y : ℕ) → ℕ
 sidesTogether sides x y = cond (eqb x y) 0 (getD sides x 0 + getD sides (8 + y) 0)
 
--- row r, of eight entries, has the terms of the first m clouds; what is beside them is as it was
+-- row r, of eight entries, has the terms of the first m clouds; all other entries are unchanged
 pub record RowFilled (sides : List ℕ) (m r : ℕ) (before after : List ℕ) : Type 0 where
   pub size : length after ≡ length before
   pub row : (y : ℕ) → y < m → getD after (r * 8 + y) 0 ≡ sidesTogether sides (r % 8) y
@@ -138,7 +138,7 @@ pub record RowFilled (sides : List ℕ) (m r : ℕ) (before after : List ℕ) : 
 abbrev pub hasClouds : (m i : ℕ) → Bool
 hasClouds m i = ltb (i / 8 % 8) m && ltb (i % 8) m
 
--- what the edges in their order add, on each two clouds; 0 where the edge or a cloud is not declared
+-- what the edges in their order add, on each two clouds; 0 if the edge or a cloud is not declared
 abbrev pub termAt : Description → ℕ → ℕ
 termAt d i = cond (ltb (i / 64) (length (d .edges)) && hasClouds (length (d .clouds)) i) (termOf d (edgeIn d (i / 64)) (i / 8 % 8) (i % 8)) 0
 
@@ -151,7 +151,7 @@ termsOf d = table 2048 (termAt d)
 abbrev pub noService : ℕ
 noService = 255
 
--- the only edge's service; no service where there is none or there are more
+-- the service of the only edge; no service if there are none or several
 abbrev pub onlyOf : List Edge → ℕ
 onlyOf [] = noService
 onlyOf (e ∷ []) = e .service
@@ -168,7 +168,7 @@ edgesOf d way m = keep (isOf way m) (d .edges)
 abbrev pub only : Description → Way → ℕ → ℕ
 only d way m = onlyOf (edgesOf d way m)
 
--- the same while edges are still to come: 0 where there was none, no service where there were more, otherwise the service and 1
+-- the same while edges are still to come: 0 if there was none, no service if there were several, otherwise the service plus 1
 abbrev pub noted : List Edge → ℕ
 noted [] = 0
 noted (e ∷ []) = e .service + 1
@@ -177,12 +177,12 @@ noted (e ∷ f ∷ es) = noService
 abbrev pub onlyIn : ℕ → ℕ
 onlyIn n = cond (eqb n 0 || eqb n noService) noService (n - 1)
 
--- of two numbers the first, or the second; no service where one of them is
+-- the first or the second of two numbers; no service if either of them is that
 abbrev pub ofPair : (a b : ℕ) → ℕ → ℕ
 ofPair a b zero = cond (eqb a noService || eqb b noService) noService a
 ofPair a b (suc i) = cond (eqb a noService || eqb b noService) noService b
 
--- of datum i / 2, by what is noted of its writers and its readers; and by the description
+-- for datum i / 2, by what is noted of its writers and its readers; and by the description
 abbrev pub pairBy : (writers readers : List ℕ) → ℕ → ℕ
 pairBy writers readers i = ofPair (onlyIn (getD writers (i / 2) 0)) (onlyIn (getD readers (i / 2) 0)) (i % 2)
 
@@ -194,43 +194,43 @@ pairsOf d = tableTo 32 (2 * length (d .blocks)) (pairAt d)
 
 -- ---- blocks that may not share a cloud
 
--- at n * 16 + u, 1 where block u is the service of an edge of datum n
+-- at n * 16 + u, 1 if block u is the service of an edge of datum n
 abbrev pub servedAt : List Edge → ℕ → ℕ
 servedAt es i = cond (any (serves (i / 16) (i % 16)) es) 1 0
 
 unfoldable pub servedOf : Description → List ℕ
 servedOf d = table 256 (servedAt (d .edges))
 
--- blocks c / 16 and c % 16, the later one first or one twice, conflict
+-- blocks c / 16 and c % 16 conflict; of two blocks the later one is first, and a block may be in conflict with itself
 abbrev pub isConflict : Description → ℕ → Bool
 isConflict d c = leb (c % 16) (c / 16) && (conflicts d (c / 16) (c % 16) || conflicts d (c % 16) (c / 16))
 
--- those of the first n numbers; of all blocks
+-- those among the first n numbers; those of all blocks
 abbrev pub conflictsTo : Description → (n : ℕ) → List ℕ
 conflictsTo d n = keep (isConflict d) (below n)
 
 unfoldable pub conflictList : Description → List ℕ
 conflictList d = conflictsTo d (length (d .blocks) * 16)
 
--- how many they are, and then each, with 0 past the last
+-- how many there are, and then each, with 0 past the last
 unfoldable pub conflictsOf : Description → List ℕ
 conflictsOf d = length (conflictList d) ∷ table mostConflicts (λ i. getD (conflictList d) i 0)
 
 -- ---- data that would do better elsewhere
 
--- Where datum m, which stands on h, would do better: bit k says that it would on k. 0 where it may not stand on h
+-- Where datum m, which stands on h, would do better: bit k is set if it would on k. 0 if it may not stand on h.
 abbrev pub exchangeBits : Description → (m h : ℕ) → ℕ
 exchangeBits d m h = cond (mayStand d m h) (bits (exchanges d m h) 0 8) 0
 
--- That of datum i / 8, on cloud i % 8; 0 where that block has not one writer and one reader, or that cloud is not declared.
+-- The same for datum i / 8, on cloud i % 8; 0 if that block does not have one writer and one reader, or the cloud is not declared.
 abbrev pub exchangeAt : Description → ℕ → ℕ
 exchangeAt d i = cond (ltb (i % 8) (length (d .clouds)) && ltb (pairAt d (2 * (i / 8))) 16) (exchangeBits d (i / 8) (i % 8)) 0
 
 unfoldable pub exchangesOf : Description → List ℕ
 exchangesOf d = tableTo 128 (length (d .blocks) * 8) (exchangeAt d)
 
--- What decides between two clouds where a datum stands on c and its copy on e: of a datum that is kept for more than a month its storage, which
--- a month of the copy does not outweigh; of one that is not kept its copy; of one that is kept for a month nothing, since both cost the same.
+-- What decides between two clouds, with a datum on c and its copy on e: if the datum is kept for more than a month, its storage, which a
+-- month of the copy does not outweigh; if it is not kept, its copy; if it is kept for a month, nothing, since both cost the same.
 abbrev pub keptLonger : Kind → Bool
 keptLonger (Datum size longevity) = ltb 1 longevity
 keptLonger (Service clearance units) = false
@@ -243,7 +243,7 @@ turnedOf (Service clearance units) = 0
 abbrev pub deciding : Kind → (c e : Cloud) → ℕ
 deciding kind c e = cond (keptLonger kind) (storageOf c kind) (e .storage * turnedOf kind)
 
--- with the storage of datum m in the words of the walk
+-- with the storage of datum m taken from the words of the walk
 abbrev pub decidingBy : Description → (words : List ℕ) (longer : Bool) (quantity m on other : ℕ) → ℕ
 decidingBy d words longer quantity m on other = cond longer (getD words (m * 8 + on) 0) (cloud d other .storage * quantity)
 
@@ -272,7 +272,7 @@ exchangesBy d bytes blocks clouds = tableTo 128 (blocks * 8) (exchangeBy d bytes
 abbrev pub wordsOf : Description → List ℕ
 wordsOf d = ownOf d ++ termsOf d
 
--- with what lies behind the others
+-- with `exchanges` after the others
 abbrev pub bytesOf : Description → List ℕ → List ℕ
 bytesOf d exchanges = endsOf d ++ startsOf d ++ masksOf d ++ pairsOf d ++ conflictsOf d ++ exchanges
 

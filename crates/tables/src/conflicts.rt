@@ -1,4 +1,4 @@
-// The blocks that may not share a cloud: those on whose clouds the one and the other datum of a pair lie.
+// The blocks that may not share a cloud: one is a block of the one datum of a pair, the other a block of the other datum.
 ghost use mathlib.Core.Path.{_≡_};
 ghost use Prim.Native.Nat.{_<_};
 ghost use lib.ListN.{replicate};
@@ -18,7 +18,7 @@ use sequences::wide;
 use visit::tables::CONFLICTS;
 use visit::tables::EXCHANGES;
 
-// For each two blocks, at the first times 16 and the second.
+// For each two blocks, at the first times 16 plus the second.
 const BLOCKS_TWICE: usize = MOST_BLOCKS * MOST_BLOCKS;
 
 // The table of conflicts: how many there are, and room for each two of sixteen blocks.
@@ -80,7 +80,7 @@ fn conflict(w: &Words, served: &[u8; BLOCKS_TWICE], u: usize, v: usize) -> bool
     false
 }
 
-// Blocks both / 16 and both % 16 conflict; of two the later one is first.
+// Blocks both / 16 and both % 16 conflict; of two blocks the later one is first.
 fn is_conflict(w: &Words, served: &[u8; BLOCKS_TWICE], both: usize) -> bool
     requires { ⌜ WellFormed (describes (now w)) ⌝ }
     requires { ⌜ now served ≡ servedOf (describes (now w)) ⌝ }
@@ -98,7 +98,7 @@ fn is_conflict(w: &Words, served: &[u8; BLOCKS_TWICE], both: usize) -> bool
     conflict(w, served, v, u)
 }
 
-// Lists them, and tells how many they are.
+// Lists them, and returns how many there are.
 fn list_conflicts(w: &Words, served: &[u8; BLOCKS_TWICE], a: &mut [u8]) -> usize
     requires { ⌜ WellFormed (describes (now w)) ⌝ }
     requires { ⌜ now served ≡ servedOf (describes (now w)) ⌝ }

@@ -33,10 +33,10 @@ use visit::tables::PAIRS;
 use visit::tables::TableBytes;
 use visit::tables::TableWords;
 
-// Stands for a service that is not there, or is not the only one.
+// Means that there is no service, or not only one.
 const NO_SERVICE: u8 = 255;
 
-// The edge reads, or writes, as asked.
+// The edge reads, or writes, as `way` says.
 fn goes(way: Way, e: Edge) -> bool
     ensures { λ r. ⌜ r ≡ sameWay way (e .way) ⌝ }
 {
@@ -47,7 +47,7 @@ fn goes(way: Way, e: Edge) -> bool
     !is_write(other)
 }
 
-// How one more service of a datum is noted.
+// The note of a datum after one more service.
 fn note(before: u8, service: u8) -> u8
     requires { ⌜ service < 254 ⌝ }
     ensures { λ r. ⌜ r ≡ cond (eqb before 0) (service + 1) noService ⌝ }
@@ -58,7 +58,7 @@ fn note(before: u8, service: u8) -> u8
     NO_SERVICE
 }
 
-// For each datum, the services that read, or write, it: 0 for none, NO_SERVICE for more than one, otherwise the service and 1.
+// For each datum, the services that read, or write, it: 0 for none, NO_SERVICE for more than one, otherwise the service plus 1.
 fn note_services(w: &Words, way: Way, a: &mut [u8; MOST_BLOCKS])
     requires { ⌜ WellFormed (describes (now w)) ⌝ }
     requires { ⌜ now a ≡ replicate 16 0 ⌝ }
@@ -76,7 +76,7 @@ fn note_services(w: &Words, way: Way, a: &mut [u8; MOST_BLOCKS])
     }
 }
 
-// The only service that is noted; NO_SERVICE where there is none or there are more.
+// The only service that is noted; NO_SERVICE if there are none or several.
 fn only_in(n: u8) -> u8
     ensures { λ r. ⌜ r ≡ onlyIn n ⌝ }
 {
@@ -89,7 +89,7 @@ fn only_in(n: u8) -> u8
     n - 1
 }
 
-// The writer of datum i / 2, and its reader; NO_SERVICE where one of the two is.
+// The writer of datum i / 2, and its reader; NO_SERVICE if either of them is that.
 fn pair_at(writers: &[u8; MOST_BLOCKS], readers: &[u8; MOST_BLOCKS], i: usize) -> u8
     requires { ⌜ i < 32 ⌝ }
     ensures { λ r. ⌜ r ≡ pairBy (now (writers .entry)) (now (readers .entry)) i ⌝ }
@@ -133,8 +133,8 @@ pub fn fill_pairs(w: &Words, a: &mut [u8])
     pair_up(&writers, &readers, block_count(w), a);
 }
 
-// It is a datum that is kept for more than a month. Then its storage alone decides between two clouds: what the copy takes back of a
-// difference is a month of it.
+// It is a datum that is kept for more than a month. Then its storage alone decides between two clouds: the copy makes up for only one month
+// of the difference.
 fn is_kept_longer(kind: Kind) -> bool
     ensures { λ r. ⌜ r ≡ keptLonger kind ⌝ }
 {
@@ -166,7 +166,7 @@ fn turned_of(kind: Kind) -> u64
     }
 }
 
-// What decides where datum m stands on one cloud and its copy on another: its words for storage, or what the copy costs.
+// What decides if datum m stands on one cloud and its copy on another: its words for storage, or what the copy costs.
 fn deciding_on(
     w: &Words,
     words: &TableWords,
@@ -186,7 +186,7 @@ fn deciding_on(
     (cloud.storage as u64) * quantity
 }
 
-// Datum m, which stands on `here`, may stand on `there` by its mask, and does so at a lower cost, or at the same and `there` is the lower cloud.
+// Datum m, which stands on `here`, may stand on `there` by its mask, and costs less there, or the same and `there` is the lower cloud.
 fn is_better(
     w: &Words,
     words: &TableWords,
@@ -257,7 +257,8 @@ pub fn fill_exchanges(
     requires { ⌜ (blocks ≤ 16) × (clouds ≤ 8) ⌝ }
     requires { ⌜ now words ≡ wordsOf (describes (now w)) ⌝ }
     requires { ⌜ drop exchangesFrom (now bytes) ≡ replicate 128 0 ⌝ }
-    ensures { λ _. ⌜ now (bytes .exit) ≡ take exchangesFrom (now (bytes .entry)) ++ exchangesBy (describes (now (w .entry))) (now (bytes .entry)) blocks clouds ⌝ }
+    ensures { λ _. ⌜ now (bytes .exit)
+        ≡ take exchangesFrom (now (bytes .entry)) ++ exchangesBy (describes (now (w .entry))) (now (bytes .entry)) blocks clouds ⌝ }
 {
     let last = blocks * MOST_CLOUDS;
     let mut i = 0;

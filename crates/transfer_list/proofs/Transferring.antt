@@ -18,7 +18,7 @@ use Rattle.sequences.specs.Lists.{sum}
 use Rattle.sequences.proofs.Loops.{rest}
 use Rattle.sequences.proofs.Tests.{cond-ind}
 
--- the edge's own transfer, if it makes one, comes before those of the edges behind it
+-- the edge's own transfer, if it makes one, comes before those of the later edges
 pub own-first : (n : ℕ) (p : List ℕ) (e : Edge) (es : List Edge) → transfersFrom n p (e ∷ es) ≡ transfersFrom n p (e ∷ []) ++ transfersFrom (suc n) p es
 own-first n p e es = go (moves p e)
   where
@@ -51,7 +51,7 @@ moved-one n p e h = simp h
 pub stayed-none : (n : ℕ) (p : List ℕ) (e : Edge) → moves p e ≡ false → length (transfersFrom n p (e ∷ [])) ≡ 0
 stayed-none n p e h = simp h
 
--- no more transfers than edges
+-- there are no more transfers than edges
 pub transfers-length : (n : ℕ) (p : List ℕ) (es : List Edge) → length (transfersFrom n p es) ≤ length es
 transfers-length n p [] = zero-le
 transfers-length n p (e ∷ es) =
@@ -63,7 +63,7 @@ unfolding transfers
 transfers-few d p = transfers-length 0 p (d .edges)
 
 -- Writing the transfers of the edges es to a buffer that held b₀, edge by edge: before edge i the bytes below `at` are those of the
--- earlier edges, and from there on the buffer is as it was.
+-- earlier edges, and from there on the buffer is unchanged.
 module _ (p : List ℕ) (es : List Edge) (b₀ : List ℕ) where
   pub record Writing (b : List ℕ) (at i : ℕ) : Type 0 where
     pub size : length b ≡ length b₀
@@ -128,12 +128,12 @@ too-short n ts h = simp (lt-ltb _ _ h)
 pub long-enough : (n : ℕ) (ts : List Transfer) → length (bytesOf ts) ≤ n → fitted n ts ≡ ok ts
 long-enough n ts h = simp (le-ltb _ _ h)
 
--- a refusal leaves a buffer as it was
+-- a refusal leaves the buffer unchanged
 pub refused-leaves : (number place : ℕ) (buffer : List ℕ) → bufferAfter (refused number place) buffer ≡ buffer
 unfolding bufferAfter
 refused-leaves number place buffer = refl
 
--- what goes by a transfer, but not by the edge's number, is summed edge by edge
+-- a sum over transfers that does not depend on the edge's number is a sum over edges
 from-by-edge : (f : Transfer → ℕ) (p : List ℕ) → ((n : ℕ) (e : Edge) → f (transferOf n p e) ≡ f (transferOf 0 p e)) → (n : ℕ) (es : List Edge)
     → sum (map f (transfersFrom n p es)) ≡ sum (map (λ e. cond (moves p e) (f (transferOf 0 p e)) 0) es)
 from-by-edge f p any n [] = refl

@@ -1,4 +1,4 @@
--- What Transfers answers, as an enum: for every case the scope's number and values.
+-- Transfers' answer as an enum: the scope's number and values for every case.
 use Prim.Native.Nat.{ℕ}
 use Rattle.transfer_list.specs.declared.Transferred.{Transferred}
 use Rattle.transfer_list.specs.declared.Transferred.the-variants.{Count, Refused}

@@ -16,7 +16,7 @@ source p e = cond (isWrite (e .way)) (serviceCloud p e) (datumCloud p e)
 abbrev pub destination : List ℕ → Edge → ℕ
 destination p e = cond (isWrite (e .way)) (datumCloud p e) (serviceCloud p e)
 
--- the copy that it makes lies on the service's cloud: where a read takes the datum to, and where a write takes it from
+-- The copy that a transfer makes lies on the service's cloud: the destination of a read, the source of a write.
 pub record Transfer : Type 0 where
   pub edge : ℕ
   pub datum : ℕ
@@ -27,7 +27,7 @@ pub record Transfer : Type 0 where
 abbrev pub transferOf : ℕ → List ℕ → Edge → Transfer
 transferOf n p e = record { edge = n; datum = e .datum; source = source p e; destination = destination p e; copy = serviceCloud p e }
 
--- of edges that are numbered from n on: one for each that moves its datum
+-- for edges numbered from n on: one for each edge that moves its datum
 abbrev pub transfersFrom : ℕ → List ℕ → List Edge → List Transfer
 transfersFrom n p [] = []
 transfersFrom n p (e ∷ es) = cond (moves p e) (transferOf n p e ∷ transfersFrom (suc n) p es) (transfersFrom (suc n) p es)
@@ -41,11 +41,11 @@ abbrev pub bytesOf : List Transfer → List ℕ
 bytesOf [] = []
 bytesOf (t ∷ ts) = t .edge ∷ t .datum ∷ t .source ∷ t .destination ∷ bytesOf ts
 
--- a buffer of n bytes has room for the transfers' bytes; 16, with the bytes needed: it is too short
+-- the transfers, if a buffer of n bytes has room for their bytes; 16, with the bytes needed, if it is too short
 abbrev pub fitted : ℕ → List Transfer → Result (List Transfer)
 fitted n ts = cond (ltb n (length (bytesOf ts))) (refused 16 (length (bytesOf ts))) (ok ts)
 
--- what a buffer holds after the call: the transfers' bytes and, beyond them, what stood there; after a refusal, what it held
+-- what a buffer holds after the call: the transfers' bytes and, beyond them, what it held before; after a refusal, what it held before
 unfoldable pub bufferAfter : Result (List Transfer) → List ℕ → List ℕ
 bufferAfter (ok ts) buffer = bytesOf ts ++ drop (length (bytesOf ts)) buffer
 bufferAfter (refused number place) buffer = buffer

@@ -74,7 +74,7 @@ fn transfer_count(w: &Words, placement: [u8; 16]) -> usize
     found
 }
 
-// Edge i's transfer, if it makes one, at an offset of the buffer. The answer is the offset behind it.
+// Writes edge i's transfer, if it makes one, at an offset of the buffer. The answer is the offset after it.
 fn put_transfer(placement: [u8; 16], i: u8, e: Edge, buffer: &mut [u8], at: usize) -> usize
     requires { ⌜ at + length (bytesOf (transfersFrom i placement (e ∷ []))) ≤ length (now buffer) ⌝ }
     ensures { λ r. ⌜ r ≡ at + length (bytesOf (transfersFrom i placement (e ∷ []))) ⌝ }
@@ -94,7 +94,9 @@ fn put_transfer(placement: [u8; 16], i: u8, e: Edge, buffer: &mut [u8], at: usiz
 fn put_transfers(w: &Words, placement: [u8; 16], buffer: &mut [u8]) -> usize
     requires { ⌜ length (bytesOf (transfers (describes (now w)) placement)) ≤ length (now buffer) ⌝ }
     ensures { λ r. ⌜ r ≡ length (transfers (describes (now (w .entry))) placement) ⌝ }
-    ensures { λ _. ⌜ now (buffer .exit) ≡ bytesOf (transfers (describes (now (w .entry))) placement) ++ drop (length (bytesOf (transfers (describes (now (w .entry))) placement))) (now (buffer .entry)) ⌝ }
+    ensures { λ _. ⌜ now (buffer .exit)
+        ≡ bytesOf (transfers (describes (now (w .entry))) placement)
+        ++ drop (length (bytesOf (transfers (describes (now (w .entry))) placement))) (now (buffer .entry)) ⌝ }
 {
     let n = edge_count(w);
     let mut at = 0;
@@ -106,10 +108,12 @@ fn put_transfers(w: &Words, placement: [u8; 16], buffer: &mut [u8]) -> usize
     at / TRANSFER_BYTES
 }
 
-// How many bytes the transfers need, where that is more than there is room for; otherwise 0. An edge makes one at most: only where room
-// is short for that they have to be counted first.
+// How many bytes the transfers need, if that is more than there is room for; otherwise 0. An edge makes at most one transfer: they have to
+// be counted first only if there is less room than that.
 fn missing(w: &Words, placement: [u8; 16], room: usize) -> usize
-    ensures { λ r. ⌜ r ≡ cond (leb (length (bytesOf (transfers (describes (now (w .entry))) placement))) room) 0 (length (bytesOf (transfers (describes (now (w .entry))) placement))) ⌝ }
+    ensures { λ r. ⌜ r
+        ≡ cond (leb (length (bytesOf (transfers (describes (now (w .entry))) placement))) room)
+        0 (length (bytesOf (transfers (describes (now (w .entry))) placement))) ⌝ }
 {
     if edge_count(w) * TRANSFER_BYTES <= room {
         return 0;
@@ -120,8 +124,10 @@ fn missing(w: &Words, placement: [u8; 16], room: usize) -> usize
 
 // All transfers of a secure placement, or a refusal with the room that they need.
 fn written(w: &Words, placement: [u8; 16], buffer: &mut [u8]) -> Transferred
-    ensures { λ r. ⌜ transfersAnswer r ≡ andThen (fitted (length (now (buffer .entry))) (transfers (describes (now (w .entry))) placement)) (λ ts. ok (length ts)) ⌝ }
-    ensures { λ r. ⌜ now (buffer .exit) ≡ bufferAfter (fitted (length (now (buffer .entry))) (transfers (describes (now (w .entry))) placement)) (now (buffer .entry)) ⌝ }
+    ensures { λ r. ⌜ transfersAnswer r
+        ≡ andThen (fitted (length (now (buffer .entry))) (transfers (describes (now (w .entry))) placement)) (λ ts. ok (length ts)) ⌝ }
+    ensures { λ r. ⌜ now (buffer .exit)
+        ≡ bufferAfter (fitted (length (now (buffer .entry))) (transfers (describes (now (w .entry))) placement)) (now (buffer .entry)) ⌝ }
 {
     let needed = missing(w, placement, buffer.len());
     if needed != 0 {
@@ -140,8 +146,16 @@ pub fn written_if_secure(
     buffer: &mut [u8],
 ) -> Transferred
     requires { ⌜ now masks ≡ masksOf (describes (now w)) ⌝ }
-    ensures { λ r. ⌜ transfersAnswer r ≡ andThen (andThen (judge (describes (now (w .entry))) placement) (λ secure. fitted (length (now (buffer .entry))) (transfers (describes (now (w .entry))) placement))) (λ ts. ok (length ts)) ⌝ }
-    ensures { λ r. ⌜ now (buffer .exit) ≡ bufferAfter (andThen (judge (describes (now (w .entry))) placement) (λ secure. fitted (length (now (buffer .entry))) (transfers (describes (now (w .entry))) placement))) (now (buffer .entry)) ⌝ }
+    ensures { λ r. ⌜ transfersAnswer r
+        ≡ andThen
+        (andThen (judge (describes (now (w .entry))) placement)
+        (λ secure. fitted (length (now (buffer .entry))) (transfers (describes (now (w .entry))) placement)))
+        (λ ts. ok (length ts)) ⌝ }
+    ensures { λ r. ⌜ now (buffer .exit)
+        ≡ bufferAfter
+        (andThen (judge (describes (now (w .entry))) placement)
+        (λ secure. fitted (length (now (buffer .entry))) (transfers (describes (now (w .entry))) placement)))
+        (now (buffer .entry)) ⌝ }
 {
     let v = verdict(w, masks, placement);
     match v {

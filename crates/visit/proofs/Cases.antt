@@ -15,7 +15,7 @@ use Rattle.visit.specs.Visits.{rowsAt, floorCostAt, floorPlaceAt, bestCo
 use Rattle.visit.specs.Visits.{earlier, wanted, oneMore, classAt, passes, counted, drawn, see, withRow, keepRow}
 use Rattle.visit.proofs.Classes.{isRow}
 
--- the second test counts only where the first finds the costs the same
+-- the second test counts only if the costs are the same
 both : (t u : Bool) → (t ≡ true → u ≡ false) → (t && u) ≡ false
 both true u h = h refl
 both false u h = refl
@@ -110,6 +110,6 @@ module _ (n cost place : ℕ) (words : List ℕ) where
   unfolding withRow
   row-stored h = rw (le-leb (n * 2 + 2) (length words) h)
 
-  -- where there is room it stands behind the n rows in front, and what is beyond stays
+  -- if there is room it is stored after the n rows before it, and what is beyond stays
   pub row-behind : n * 2 + 2 ≤ length words → withRow n cost place words ≡ take (n * 2) words ++ (cost ∷ place ∷ []) ++ drop (n * 2 + 2) words
   row-behind h = row-stored h ∙ ap (λ k. set (set words (n * 2) cost) k place) (add-one (n * 2)) ∙ sets-eq (cost ∷ place ∷ []) words (n * 2) h

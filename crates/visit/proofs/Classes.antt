@@ -26,7 +26,7 @@ module _ (w : ℕ) (t : Tests) where
   pub class-at-low : classAt w t < classes
   class-at-low = cond-ind (λ k. k < classes) (isUnexposed w && not (t .apart)) clashClass (classOf w) (λ _. omega arith) (λ _. omega (arith, class-low w))
 
-  -- ---- what each class says: secure, broken by what no edge decides, and the others by the weight alone
+  -- ---- what each class says: secure, broken by what no single edge decides, and the others by the weight alone
 
   pub class-secure : eqb (classAt w t) secureClass ≡ (isUnexposed w && t .apart)
   class-secure = go (isUnexposed w) (t .apart) (class-unexposed w)

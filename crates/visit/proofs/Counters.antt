@@ -19,7 +19,7 @@ use Rattle.visit.specs.Visits.{classAt, passes, counted, drawn, see}
 use Rattle.visit.proofs.Cases.{see-counts}
 use Rattle.visit.proofs.Classes.{class-at-low, isRow}
 
--- one where the test passes, none where it fails
+-- one if the test passes, none if it fails
 abbrev pub one : Bool → ℕ
 one b = cond b 1 0
 
@@ -27,7 +27,7 @@ one-most : (b : Bool) → one b ≤ 1
 one-most true = omega arith
 one-most false = omega arith
 
--- a counter is no more than all that was counted
+-- a counter is at most the sum of all
 pub one-of-all : (s : List ℕ) (k : ℕ) → k < classes → getD s k 0 ≤ tally s
 one-of-all s zero h = omega arith
 one-of-all s (suc zero) h = omega arith
@@ -43,14 +43,14 @@ more-at s k j h = elim (ℕ-discrete k j) [
   | no n ↦ rw (ne-eqb k j n) (getD-set-other s k j (getD s k 0 + 1) 0 (λ e. n (sym e)) ∙ sym (add-zero (getD s j 0)))
 ]
 
--- one more of a class leaves the rows
+-- one more of a class does not change the rows
 pub rows-stay : (k : ℕ) (s r : List ℕ) → k < classes → r ≡ oneMore k s → getD r rowsAt 0 ≡ getD s rowsAt 0
 rows-stay k s r h e = ap (λ l. getD l rowsAt 0) e ∙ getD-set-other s k rowsAt (getD s k 0 + 1) 0 (λ z. omega arith)
 
 -- ---- one placement
 
 module _ (w p : ℕ) (t : Tests) (s : List ℕ) (size : length s ≡ stateSize) where
-  -- what counter j counts: below the rows, the placements of that class; the rows
+  -- what counter j counts: the placements of class j, or if it is the last one, the rows
   abbrev pub counts : ℕ → Bool
   counts j = cond (eqb j rowsAt) (isRow w t) (eqb (classAt w t) j)
 
@@ -67,7 +67,7 @@ module _ (w p : ℕ) (t : Tests) (s : List ℕ) (size : length s ≡ stateSize) 
   unfolding counted
   counted-at j h = go (isRow w t)
     where
-      -- the rows are no class
+      -- the rows are not a class
       no-class : j ≡ rowsAt → one (eqb (classAt w t) j) ≡ 0
       no-class e = ap one (ne-eqb (classAt w t) j (λ z. omega (arith, class-at-low w t)))
 
@@ -94,7 +94,7 @@ module _ (w p : ℕ) (t : Tests) (s : List ℕ) (size : length s ≡ stateSize) 
       cond-ind (λ (l : List ℕ). getD l countingAt 0 ≡ getD s countingAt 0) (isRow w t) _ _
       (λ _. getD-set-other (oneMore c s) rowsAt countingAt (getD (oneMore c s) rowsAt 0 + 1) 0 (λ z. omega arith) ∙ one) (λ _. one)
 
-  -- while drawing, the counters stay
+  -- while drawing, the counters don't change
   pub drawn-at : (j : ℕ) → j < 8 → getD (drawn w p t s) j 0 ≡ getD s j 0
   unfolding drawn
   drawn-at j h = cond-ind (λ (l : List ℕ). getD l j 0 ≡ getD s j 0) (wanted s w p && passes t) _ _
@@ -151,7 +151,7 @@ module _ {A : Type 0} (weight number : A → ℕ) (tests : A → Tests) where
     on = ap (λ n. eqb n 1) (see-counting (weight a) (number a) (tests a) s (c .size)) ∙ c .on;
   }
 
-  -- WHAT EACH COUNTER HOLDS: a class's counter, how many placements of that class there were; the last one, how many rows
+  -- WHAT EACH COUNTER HOLDS: that of a class, how many placements of that class there were; the last one, how many rows
   pub counters : (j : ℕ) → j ≤ rowsAt → (l : List A) (s : List ℕ) → Counts s → getD (foldl seeing s l) j 0 ≡ getD s j 0 + length (keep (countedAs j) l)
   counters j h [] s c = sym (add-zero (getD s j 0))
   counters j h (a ∷ l) s c =

@@ -1,4 +1,4 @@
--- What is said of tables, in the words of the definitions.
+-- Facts about tables, in the words of the definitions.
 use Prim.Native.Nat.{ℕ, _+_}
 use mathlib.Core.Path.{_≡_, refl}
 use mathlib.Core.Bool.{not}

@@ -1,4 +1,4 @@
--- In a walk that draws, what is kept is the first row past the floor: the same as a fold that keeps the better row.
+-- A walk that draws keeps the first row past the floor: the same as a fold that keeps the better row.
 use Prim.Native.Nat.{ℕ, _≤_, _<_}
 use native.Mathlib.Omega.{arith}
 use mathlib.Core.Path.{_≡_, refl, sym, ap, ap₂, subst, _∙_}
@@ -23,7 +23,7 @@ pub record Draws (floor floorplace : ℕ) (s : List ℕ) : Type 0 where
   pub floorIs : getD s floorCostAt 0 ≡ floor
   pub placeIs : getD s floorPlaceAt 0 ≡ floorplace
 
--- drawing changes nothing of that
+-- drawing does not change that
 pub still-draws : {floor floorplace : ℕ} (w p : ℕ) (t : Tests) (s : List ℕ) → Draws floor floorplace s → Draws floor floorplace (see w p t s)
 still-draws w p t s a =
     let at : (j : ℕ) → j < 8 → getD (see w p t s) j 0 ≡ getD s j 0 =
@@ -45,8 +45,8 @@ best-in s w p size = (
 
 module _ {A R : Type 0} (test : R → R → Bool) (later : R → Bool) (row : A → R) (price : R → ℕ) (weight number : A → ℕ) (tests : A → Tests) (sec : A → Bool)
     (floor floorplace : ℕ) (all : List A) where
-  -- What ties weights and numbers to rows: a weight below the limit of costs says that no edge breaks a rule and is then the row's price;
-  -- rows come by price and then by number; and a row is past the cursor where it is not before the floor.
+  -- How weights and numbers belong to rows: a weight below the limit of costs says that no edge breaks a rule, and is then the row's price;
+  -- rows are ordered by price and then by number; and a row is past the cursor if it is not before the floor.
   pub record Fits : Type 0 where
     pub unexposedIs : (a : A) → List·Memᴰ a all → isUnexposed (weight a) ≡ sec a
     pub priceIs : (a : A) → List·Memᴰ a all → sec a ≡ true → weight a ≡ price (row a)
@@ -70,7 +70,7 @@ module _ {A R : Type 0} (test : R → R → Bool) (later : R → Bool) (row : A 
     abbrev keeping : Option R → A → Option R
     keeping = betterIf test later (λ a. sec a && passes (tests a)) row
 
-    -- where no edge breaks a rule, a placement is wanted where it is past the cursor and beats what is kept
+    -- if no edge breaks a rule, a placement is wanted exactly if it is past the cursor and beats what is kept
     unexposed-wanted : (s : List ℕ) (o : Option R) → Kept s o → (a : A) → List·Memᴰ a all → sec a ≡ true
         → wanted s (weight a) (number a) ≡ (later (row a) && beats test (row a) o)
     unexposed-wanted s o k a m h = ap₂ _&&_ past (first o (k .best))
@@ -92,7 +92,7 @@ module _ {A R : Type 0} (test : R → R → Bool) (later : R → Bool) (row : A 
         omega (arith, cost, fits .priceIs b i safe, ltb-true (weight b) costLimit (fits .unexposedIs b i ∙ safe)) in
         (omega arith, λ z. absurd (omega arith))
 
-    -- what is broken weighs too much
+    -- a placement that breaks a rule weighs too much
     broken-unwanted : (s : List ℕ) (o : Option R) → Kept s o → (a : A) → List·Memᴰ a all → sec a ≡ false → wanted s (weight a) (number a) ≡ false
     broken-unwanted s o k a m h =
         let heavy = ltb-false (weight a) costLimit (fits .unexposedIs a m ∙ h) in

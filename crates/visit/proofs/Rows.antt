@@ -1,4 +1,4 @@
--- The cases of the row test: which end a datum can move to. The tests look at the bytes of the tables alone.
+-- The cases of the row test: to which end a datum can move. The tests look at the bytes of the tables alone.
 use Prim.Native.Nat.{ℕ, _+_, _*_, _≤_, _<_}
 use mathlib.Core.Path.{_≡_, refl}
 use mathlib.Core.Bool.{Bool, false}
@@ -33,7 +33,7 @@ module _ (t : Tables) (q : List ℕ) (m : ℕ) where
     pub elsewhere : (a ≡ c → ⊥) → (getD q m 0 ≡ a → ⊥) → (getD q m 0 ≡ c → ⊥) → betterAway ≡ false
     elsewhere g h i = simp (lt-ltb (pair t (2 * m)) 16 paired, ← e, ← f, ne-eqb a c g, ne-eqb (getD q m 0) a h, ne-eqb (getD q m 0) c i)
 
--- ---- the words have no part in the tests
+-- ---- the tests do not depend on the words
 
 module _ (words bytes : List ℕ) (n : ℕ) where
   pub tests-bytes : (q : List ℕ) → testsOf (tables [] bytes) n q ≡ testsOf (tables words bytes) n q

@@ -1,5 +1,5 @@
 -- Tables of a problem: what each block adds to a placement's weight on each cloud, what each edge adds, where blocks may stand, which of
--- them may not share a cloud, and which data would do better on which cloud. They lie one behind the other in lent words and lent bytes.
+-- them may not share a cloud, and which data would do better on which cloud. They lie one after the other in lent words and lent bytes.
 use Prim.Native.Nat.{ℕ, _+_, _-_, _*_, _/_, _%_, _≤_, _<_}
 use mathlib.Core.Path.{_≡_}
 use mathlib.Core.Bool.{Bool, false, not, cond}
@@ -45,7 +45,7 @@ conflictsFrom = 129
 abbrev pub exchangesFrom : ℕ
 exchangesFrom = 266
 
--- two blocks of sixteen, the later one first, or one twice: so many there are
+-- the number of choices of two of sixteen blocks, the later one first, or of one block twice
 abbrev pub mostConflicts : ℕ
 mostConflicts = 136
 
@@ -58,7 +58,7 @@ module _ (t : Tables) where
   abbrev pub term : ℕ → ℕ
   term i = getD (t .words) (termsFrom + i) 0
 
-  -- the later end of edge i at 2 * i, a block; at 2 * i + 1 how far a packed placement is shifted from there to its other end, three bits a block
+  -- the later end of edge i, a block, at 2 * i; at 2 * i + 1 the shift of a packed placement from there to its other end, three bits a block
   abbrev pub end : ℕ → ℕ
   end i = getD (t .bytes) i 0
 
@@ -66,32 +66,32 @@ module _ (t : Tables) where
   abbrev pub farEnd : ℕ → ℕ
   farEnd i = end (2 * i) - end (2 * i + 1) / 3
 
-  -- at k, how many edges have a later end below k; the edges stand in the order of their later ends
+  -- at k, how many edges have a later end below k; the edges are in the order of their later ends
   abbrev pub start : ℕ → ℕ
   start k = getD (t .bytes) (startsFrom + k) 0
 
-  -- bit k of the mask of b is set where block b may stand on cloud k
+  -- bit k of the mask of b is set if block b may stand on cloud k
   abbrev pub mask : ℕ → ℕ
   mask b = getD (t .bytes) (masksFrom + b) 0
 
-  -- the writer and the only reader of datum m at 2 * m and 2 * m + 1; 16 or more where it has not one of each
+  -- the writer and the only reader of datum m at 2 * m and 2 * m + 1; 16 or more if it does not have one of each
   abbrev pub pair : ℕ → ℕ
   pair i = getD (t .bytes) (pairsFrom + i) 0
 
-  -- how many conflicts there are; conflict i is of blocks u and v, as u * 16 + v: they may not stand on one cloud
+  -- how many conflicts there are; conflict i is u * 16 + v for two blocks u and v that may not stand on one cloud
   abbrev pub conflictCount : ℕ
   conflictCount = getD (t .bytes) conflictsFrom 0
 
   abbrev pub conflict : ℕ → ℕ
   conflict i = getD (t .bytes) (conflictsFrom + 1 + i) 0
 
-  -- at m * 8 + h, bit k is set where datum m, which stands on h, would do better on k
+  -- at m * 8 + h, bit k is set if datum m, which stands on h, would do better on k
   abbrev pub exchange : ℕ → ℕ
   exchange i = getD (t .bytes) (exchangesFrom + i) 0
 
   -- ---- placements of n blocks
 
-  -- all of them, in lexicographic order: one of the clouds whose bits its mask has set for each block, and nothing else says which
+  -- all of them, in lexicographic order: for each block one of the clouds whose bits its mask has set; nothing else limits them
   unfoldable pub placements : (n : ℕ) → List (List ℕ)
   placements n = bitChoices (map mask (below n))
 
@@ -118,7 +118,7 @@ module _ (t : Tables) where
 
   -- ---- the row test
 
-  -- where datum m, between one writer and one reader and on the cloud of one of the two, would still be in the same option: on the other's
+  -- the cloud to which datum m can move within its option: if it has one writer and one reader and is on the cloud of one, that of the other
   abbrev pub movesTo : List ℕ → ℕ → Option ℕ
   movesTo q m = cond (ltb (pair (2 * m)) 16) (otherEnd (getD q (pair (2 * m)) 0) (getD q (pair (2 * m + 1)) 0) (getD q m 0)) none
 
@@ -131,20 +131,20 @@ module _ (t : Tables) where
   unfoldable pub stands : ℕ → List ℕ → Bool
   stands n q = not (any (λ m. betterOn q m (movesTo q m)) (below n))
 
-  -- What the tests of a placement ask of the tables of n blocks.
+  -- what the tests of a placement ask of the tables of n blocks
   pub record Paired (n : ℕ) : Type 0 where
     -- writers and readers are blocks
     pub pairsSmall : (m : ℕ) → m < n → pair (2 * m) < 16 → (pair (2 * m) < n) × (pair (2 * m + 1) < n)
-    -- so are those that may not share a cloud
+    -- so are the blocks that may not share a cloud
     pub conflictsFew : conflictCount ≤ mostConflicts
     pub conflictsSmall : (i : ℕ) → i < conflictCount → (conflict i / 16 < n) × (conflict i % 16 < n)
 
-  -- What the walk asks of the tables of n blocks.
+  -- what the walk asks of the tables of n blocks
   pub record Ready (n : ℕ) : Type 0 where
     pub inhabited : 0 < n
     pub few : n ≤ 16
-    -- the edges before start k have both ends below k, the later one first, and the shift between them is whole blocks; those from there on have
-    -- a later end of k or above
+    -- the edges before start k have both ends below k, the later one first, and the shift between them is whole blocks; those from there to
+    -- start (k + 1) have the later end k
     pub earlier : (k i : ℕ) → k ≤ n → i < start k → (end (2 * i) < k) × (end (2 * i + 1) ≡ 3 * (end (2 * i) - farEnd i))
     pub later : (k i : ℕ) → k < n → start k ≤ i → i < start (k + 1) → end (2 * i) ≡ k
     pub rising : (k : ℕ) → k < n → start k ≤ start (k + 1)
@@ -156,7 +156,7 @@ module _ (t : Tables) where
     pub masked : (b : ℕ) → b < n → mask b < 256
     pub paired : Paired n
 
--- What the weight of a placement does not tell: whether no two blocks in conflict share a cloud, and whether it passes the row test.
+-- What the weight of a placement does not show: whether no two blocks in conflict share a cloud, and whether it passes the row test.
 pub record Tests : Type 0 where
   pub apart : Bool
   pub stands : Bool
@@ -164,7 +164,7 @@ pub record Tests : Type 0 where
 abbrev pub testsOf : Tables → (n : ℕ) → List ℕ → Tests
 testsOf t n q = record { apart = apart t q; stands = stands t n q }
 
--- of a packed placement; they look at the bytes of the tables alone
+-- for a packed placement; they look at the bytes of the tables alone
 abbrev pub apartIn : (bytes : List ℕ) (n place : ℕ) → Bool
 apartIn bytes n place = apart (tables [] bytes) (digits n place)
 

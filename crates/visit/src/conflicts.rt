@@ -10,7 +10,7 @@ use crate::tables::TableBytes;
 use packing::cloud_in;
 use sequences::wide;
 
-// The blocks of conflict i, which one byte has as the first times 16 and the second, stand on one cloud.
+// The two blocks of conflict i stand on one cloud. Its byte is the first block times 16 plus the second.
 fn clashes(bytes: &TableBytes, blocks: usize, place: u64, i: usize) -> bool
     requires { ⌜ (blocks ≤ 16) × Paired (tables [] (now bytes)) blocks ⌝ }
     requires { ⌜ i < conflictCount (tables [] (now bytes)) ⌝ }

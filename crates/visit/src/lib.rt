@@ -1,5 +1,5 @@
 // One placement that a walk meets: what is counted and kept of it, or whether it is the row that is drawn. Blocks, clouds and edges are
-// numbers here, and what each adds to a placement's weight.
+// only numbers here, each with what it adds to a placement's weight.
 ghost use mathlib.Core.Path.{_≡_};
 ghost use mathlib.Core.Bool.{true};
 ghost use mathlib.Core.List.{[]};
@@ -21,8 +21,8 @@ use weights::COST_LIMIT;
 use weights::SECURE;
 use weights::class_of;
 
-// What is asked of a walk and what it found, in words that it is lent: it goes down a long way, and carries no copy of them. The counters
-// of the classes are in front; where the rest lies is said here and in specs/Visits.antt.
+// What is asked of a walk and what it found, in lent words: the walk recurses deeply and carries no copy of them. The counters of the
+// classes come first; the places of the rest are given here and in specs/Visits.antt.
 pub const ROWS: usize = 4;
 
 pub const COUNTING: usize = 5;
@@ -60,7 +60,7 @@ fn is_wanted(state: &State, cost: u64, place: u64) -> bool
     true
 }
 
-// A walk that draws: the placement is the best row from there on, if it is wanted, no two blocks in conflict share a cloud, and it stands for
+// A walk that draws: the placement becomes the best row so far if it is wanted, no two blocks in conflict share a cloud, and it represents
 // its option.
 fn draw(bytes: &TableBytes, blocks: usize, weight: u64, place: u64, state: &mut State)
     requires { ⌜ length (now state) ≡ stateSize ⌝ }
@@ -80,7 +80,7 @@ fn draw(bytes: &TableBytes, blocks: usize, weight: u64, place: u64, state: &mut 
     state[BEST_PLACE] = place;
 }
 
-// The row goes behind the n before it, where the lent words have room for it.
+// The row goes after the n rows before it, if the lent words have room for it.
 fn keep(n: u64, cost: u64, place: u64, kept: &mut [u64])
     requires { ⌜ n < countLimit ⌝ }
     ensures { λ _. ⌜ now (kept .exit) ≡ withRow n cost place (now (kept .entry)) ⌝ }
@@ -93,7 +93,7 @@ fn keep(n: u64, cost: u64, place: u64, kept: &mut [u64])
     kept[at + 1] = place;
 }
 
-// The class of a placement. Conflicts are looked at only where no edge breaks a rule.
+// The class of a placement. Conflicts are looked at only if no edge breaks a rule.
 fn class_at(bytes: &TableBytes, blocks: usize, weight: u64, place: u64) -> usize
     requires { ⌜ (blocks ≤ 16) × Paired (tables [] (now bytes)) blocks ⌝ }
     ensures { λ r. ⌜ (r ≡ classAt weight (testsIn (now (bytes .entry)) blocks place)) × (r < classes) ⌝ }
@@ -143,7 +143,7 @@ fn count(
     state[ROWS] += 1;
 }
 
-// One placement more.
+// One more placement.
 fn count_or_draw(
     bytes: &TableBytes,
     blocks: usize,
@@ -164,7 +164,7 @@ fn count_or_draw(
     draw(bytes, blocks, weight, place, state);
 }
 
-// The same, with the test in front that decides most placements of a draw: a walk does it in place, and calls for what is left.
+// The same, with a test first that decides most placements of a draw: a walk does that in place, and calls only for the others.
 pub fn meet(
     bytes: &TableBytes,
     blocks: usize,

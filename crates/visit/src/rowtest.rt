@@ -21,11 +21,12 @@ fn is_better(bytes: &TableBytes, m: usize, here: usize, there: usize) -> bool
     (better >> there) % 2 == 1
 }
 
-// Block m is a datum that would do better at its other end. One without one writer and one reader has numbers for them that no block has.
+// Block m is a datum that would do better at its other end. If it does not have one writer and one reader, their numbers are those of no block.
 fn moves(bytes: &TableBytes, blocks: usize, place: u64, m: usize) -> bool
     requires { ⌜ (blocks ≤ 16) × (m < blocks) ⌝ }
     requires { ⌜ Paired (tables [] (now bytes)) blocks ⌝ }
-    ensures { λ r. ⌜ r ≡ betterOn (tables [] (now (bytes .entry))) (digits blocks place) m (movesTo (tables [] (now (bytes .entry))) (digits blocks place) m) ⌝ }
+    ensures { λ r. ⌜ r
+        ≡ betterOn (tables [] (now (bytes .entry))) (digits blocks place) m (movesTo (tables [] (now (bytes .entry))) (digits blocks place) m) ⌝ }
 {
     let writer = wide(bytes[PAIRS + 2 * m]);
     if MOST_BLOCKS <= writer {

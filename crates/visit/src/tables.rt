@@ -1,4 +1,4 @@
-// There are no more blocks.
+// The most blocks there can be.
 pub const MOST_BLOCKS: usize = 16;
 
 // Where each table lies in the lent words and bytes; the same as in specs/Tables.antt.

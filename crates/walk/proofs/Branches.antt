@@ -15,20 +15,20 @@ module _ {A : Type 0} where
   prefixed-append rest (x ∷ xs) ys =
       ap (λ l. map (λ p. x ∷ p) rest ++ l) (prefixed-append rest xs ys) ∙ sym (append-assoc (map (λ p. x ∷ p) rest) (prefixed rest xs) (prefixed rest ys))
 
-  -- the lists with c in front, behind q
+  -- the lists with c in front, after q
   behind : (q : List A) (c : A) (rest : List (List A)) → map (λ p. q ++ p) (map (λ p. c ∷ p) rest ++ []) ≡ map (λ p. (q ++ (c ∷ [])) ++ p) rest
   behind q c [] = refl
   behind q c (r ∷ rest) = ap₂ _∷_ (sym (append-assoc q (c ∷ []) r)) (behind q c rest)
 
 module _ (S : Setting) (n : ℕ) (q : List ℕ) where
-  -- one cloud more
+  -- one more cloud
   pub branches-more : (done : List ℕ) (c : ℕ) → branches S n q (done ++ (c ∷ [])) ≡ branches S n q done ++ branches S n q (c ∷ [])
   unfolding branches
   branches-more done c =
       let rest = sequences (choices S (suc (length q)) n) in
       ap (map (λ p. q ++ p)) (prefixed-append rest done (c ∷ [])) ∙ map-append (λ p. q ++ p) (prefixed rest done) (prefixed rest (c ∷ []))
 
-  -- the clouds whose bits the next block's mask has set are all
+  -- the clouds whose bits are set in the next block's mask are all
   pub branches-all : branches S n q (setBits (mask (S .table) (length q))) ≡ completions S (suc n) q
   unfolding branches completions
   branches-all = refl
@@ -43,7 +43,7 @@ map-same : (xs : List (List ℕ)) → map (λ p. [] ++ p) xs ≡ xs
 map-same [] = refl
 map-same (x ∷ xs) = ap (λ l. x ∷ l) (map-same xs)
 
--- from no block on they are all sequences of choices
+-- below the empty prefix they are all sequences of choices
 pub completions-all : (S : Setting) (n : ℕ) → completions S n [] ≡ sequences (choices S 0 n)
 unfolding completions
 completions-all S n = map-same (sequences (choices S 0 n))

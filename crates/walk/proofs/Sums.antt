@@ -1,4 +1,4 @@
--- Sums over the numbers below n: one term more, equal terms, bounded terms.
+-- Sums over the numbers below n: one more term, equal terms, bounded terms.
 use Prim.Native.Nat.{ℕ, zero, suc, _+_, _*_, _≤_, _<_}
 use native.Mathlib.Nat.{add-zero}
 use native.Mathlib.Omega.{arith}

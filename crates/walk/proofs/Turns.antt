@@ -1,4 +1,4 @@
--- What the walk does at a prefix: at its end a visit, above it a turn for each cloud.
+-- What the walk does at a prefix: a visit if it is complete, otherwise a turn for each cloud.
 use Prim.Native.Nat.{ℕ, suc, _+_, _-_, _*_, _^_, _≤_, _<_}
 use native.Mathlib.Nat.{pow-suc, pow-le-pow-right, suc-mul, mul-le-mul-right}
 use native.Mathlib.Numerals.{add-one}
@@ -48,8 +48,8 @@ module _ (S : Setting) where
       ∙ sym (foldl-append (keepAt (S .table) (S .blocks)) s (branches S n q done) (branches S n q (c ∷ [])))
       ∙ ap (seeThese S s) (sym (branches-more S n q done c))
 
-  -- what the loop keeps, with `left` blocks to follow the prefix: from s the clouds `done` had their turns, those of the bits of `rest` are
-  -- still to come, and v is what it has come to
+  -- What the loop keeps, with `left` blocks after the prefix: starting from s, the clouds `done` had their turns, those of the bits of
+  -- `rest` are still to come, and v is the state reached.
   pub record Going (left place rest : ℕ) (s v : Sight) : Type 0 where
     pub done : List ℕ
     pub all : setBits (mask (S .table) (S .blocks - left)) ≡ done ++ setBits rest
@@ -78,7 +78,7 @@ module _ (S : Setting) where
         }
 
     module _ (rest : ℕ) {v : Sight} (g : Going left place rest s v) where
-      -- a turn takes the room of one bit
+      -- a turn uses up the room of one bit
       fewer : (r : ℕ) {c : ℕ} → setBits rest ≡ c ∷ setBits r → length (setBits rest) * size ≡ length (setBits r) * size + size
       fewer r e = ap (λ bits. length bits * size) e ∙ suc-mul (length (setBits r)) size
 
@@ -175,7 +175,7 @@ module _ (S : Setting) where
         carried = carried-none (S .table) (S .blocks) r;
       })
 
-  -- what is seen does not hang on what is kept
+  -- what is seen does not depend on what is kept
   seen-first : (qs : List (List ℕ)) (s : Sight) → foldl (keepAt (S .table) (S .blocks)) s qs .0 ≡ foldl (seeAt (S .table) (S .blocks)) (s .0) qs
   seen-first [] s = refl
   seen-first (q ∷ qs) s = seen-first qs (keepAt (S .table) (S .blocks) s q)

@@ -1,4 +1,4 @@
--- The weight of the blocks so far, as one block more gets its cloud: its own term, then the edges that end at it, one at a time.
+-- The weight of the blocks so far, when one more block gets its cloud: its own term, then the edges that end at it, one at a time.
 use Prim.Native.Nat.{ℕ, suc, _+_, _-_, _*_, _/_, _%_, _^_, _≤_, _<_}
 use native.Mathlib.Numerals.{add-one}
 use native.Mathlib.Omega.{arith}
@@ -48,7 +48,7 @@ module _ (t : Tables) where
     pub weight-small : (k : ℕ) (q : List ℕ) → k ≤ n → weight t k q ≤ 48 * termLimit
     weight-small k q h = omega (arith, part-weight k q, part-small k (start t k) q, r .all k h, r .few)
 
-    -- a cloud more at the end changes no term of the blocks and the edges before it
+    -- one more cloud at the end changes no term of the blocks and the edges before it
     part-kept : (k c : ℕ) (q : List ℕ) → k ≤ n → length q ≡ k → part t k (start t k) (q ++ (c ∷ [])) ≡ part t k (start t k) q
     unfolding part
     part-kept k c q h l =
@@ -66,7 +66,7 @@ module _ (t : Tables) where
         let a = r .later k e h l u in
         (a, omega (arith, a), omega (arith, a, r .earlier (k + 1) e (omega arith) u .1))
 
-    -- block k on cloud c too, before the edges
+    -- block k on cloud c as well, before its edges
     pub part-next : (k c place : ℕ) → k < n → c < 8
         → weight t k (digits k place) + own t (k * 8 + c) ≡ part t (k + 1) (start t k) (digits (k + 1) (place * 8 + c))
     part-next k c place h d =

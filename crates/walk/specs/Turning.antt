@@ -1,4 +1,4 @@
--- The walk below a prefix: the placements that begin with it, what is known as the walk comes there, and what it has done as it leaves.
+-- The walk below a prefix: the placements that begin with it, what is known when the walk gets there, and what it has done when it leaves.
 use Prim.Native.Nat.{ℕ, suc, _+_, _*_, _^_, _≤_, _<_}
 use mathlib.Core.Path.{_≡_}
 use mathlib.Core.List.{List, [], _∷_, _++_, map, foldl}
@@ -10,7 +10,7 @@ use Rattle.visit.specs.Tables.{Tables, tables, mask, weight, Ready}
 use Rattle.visit.specs.Visits.{counterCount, countLimit, tally}
 use Rattle.walk.specs.Walking.{Sight, keepAt}
 
--- what stays the same all the way down
+-- what stays the same throughout the walk
 pub record Setting : Type 0 where
   pub table : Tables
   pub blocks : ℕ
@@ -22,11 +22,11 @@ setting words bytes blocks = record { table = tables words bytes; blocks = block
 abbrev pub Carried : Tables → (k place w : ℕ) → Type 0
 Carried t k place w = w ≡ weight t k (digits k place)
 
--- the tables are those of some blocks, and block k is one of them
+-- the tables are those of n blocks, for some n, and block k is one of them
 abbrev pub Within : Tables → (k : ℕ) → Type 0
 Within t k = (n : ℕ) × (k < n) × Ready t n
 
--- there is room to count 8 ^ n placements more
+-- there is room to count 8 ^ n more placements
 abbrev pub Room : (n : ℕ) → List ℕ → Type 0
 Room n state = tally state + counterCount * 8 ^ n ≤ countLimit
 
@@ -35,11 +35,11 @@ module _ (S : Setting) where
   abbrev pub choices : (k n : ℕ) → List (List ℕ)
   choices k n = map (λ b. setBits (mask (S .table) b)) (from k n)
 
-  -- the placements that begin with q, in which n blocks follow
+  -- the placements that begin with q and have n more blocks
   unfoldable pub completions : ℕ → List ℕ → List (List ℕ)
   completions n q = map (λ p. q ++ p) (sequences (choices (length q) n))
 
-  -- the placements that begin with q, whose next block is on one of the clouds ks, and n blocks follow
+  -- the placements that begin with q, have the next block on one of the clouds ks, and then n more blocks
   unfoldable pub branches : ℕ → List ℕ → List ℕ → List (List ℕ)
   branches n q ks = map (λ p. q ++ p) (prefixed (sequences (choices (suc (length q)) n)) ks)
 
@@ -54,15 +54,15 @@ module _ (S : Setting) where
     pub low : place < 8 ^ k
     pub carried : Carried (S .table) k place w
 
-  -- from v, all of qs were seen, and no more was counted than for 8 ^ n placements
+  -- all of qs were seen, starting from v, and no more was counted than for 8 ^ n placements
   pub record Walked (v : Sight) (n : ℕ) (qs : List (List ℕ)) (r : Sight) : Type 0 where
     pub same : r ≡ seeThese v qs
     pub counted : tally (r .0) ≤ tally (v .0) + counterCount * 8 ^ n
 
-  -- the walk below the first k digits of place, with n blocks to follow
+  -- the walk below the first k digits of place, with n more blocks
   abbrev pub WalkedBelow : (v : Sight) (k n place : ℕ) (r : Sight) → Type 0
   WalkedBelow v k n place r = Walked v n (completions n (digits k place)) r
 
-  -- the turn of cloud c there, with n blocks to follow
+  -- the turn of cloud c there, with n more blocks
   abbrev pub Turned : (v : Sight) (k n place c : ℕ) (r : Sight) → Type 0
   Turned v k n place c r = Walked v n (branches n (digits k place) (c ∷ [])) r

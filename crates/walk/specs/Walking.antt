@@ -13,7 +13,7 @@ seeAt t n s q = see (weight t n q) (pack q) (testsOf t n q) s
 unfoldable pub seeAll : Tables → (n : ℕ) → List ℕ → List ℕ
 seeAll t n s = foldl (seeAt t n) s (placements t n)
 
--- what a walk has come to: its words, and the lent words with the rows that it kept
+-- the state of a walk: its words, and the lent words with the rows that it kept
 abbrev pub Sight : Type 0
 Sight = List ℕ × List ℕ
 

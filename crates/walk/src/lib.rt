@@ -1,5 +1,5 @@
-// A walk over all placements of a table of blocks, each met exactly once, in lexicographic order: each block is put on each cloud where it
-// may stand, and the weight of the blocks so far is carried down.
+// A walk over all placements of a table of blocks. Each is met exactly once, in lexicographic order: each block is put on each cloud where
+// it may stand, and the weight of the blocks so far is passed down.
 ghost use Prim.Native.Nat.{_+_, _-_, _*_, _^_, _<_};
 ghost use mathlib.Core.Path.{_≡_};
 ghost use mathlib.Core.List.{_∷_};
@@ -19,7 +19,7 @@ use visit::tables::TERMS;
 use visit::tables::TableBytes;
 use visit::tables::TableWords;
 
-// The weight with block `at` on cloud c too. Its edges are those from lo to below hi.
+// The weight with block `at` on cloud c as well. Its edges are those from lo to below hi.
 fn step(
     words: &TableWords,
     bytes: &TableBytes,
@@ -47,7 +47,7 @@ fn step(
     sum
 }
 
-// The set bits of a mask but the lowest.
+// The set bits of a mask except the lowest.
 fn without_lowest(rest: usize) -> usize
     requires { ⌜ (0 < rest) × (rest < 256) ⌝ }
     ensures { λ r. ⌜ setBits rest ≡ trailingZeros 64 rest ∷ setBits r ⌝ }
@@ -57,7 +57,7 @@ fn without_lowest(rest: usize) -> usize
 }
 
 // Meets the placements below a prefix, whose last `left` blocks have no cloud yet. It goes from set bit to set bit of the next block's mask.
-// What the turns of that block share is loaded once: behind their stores to `state` each would load it again.
+// What the turns of that block share is loaded once: after a turn's stores to `state` the compiler would load it again.
 fn walk(
     words: &TableWords,
     bytes: &TableBytes,
@@ -72,7 +72,9 @@ fn walk(
     requires { ⌜ Under (setting (now words) (now bytes) blocks) (blocks - left) left weight place ⌝ }
     requires { ⌜ (0 < left) × Room left (now state) ⌝ }
     ensures { λ _. ⌜ length (now (state .exit)) ≡ stateSize ⌝ }
-    ensures { λ _. ⌜ WalkedBelow (setting (now (words .entry)) (now (bytes .entry)) blocks) (now (state .entry), now (kept .entry)) (blocks - left) left place (now (state .exit), now (kept .exit)) ⌝ }
+    ensures { λ _. ⌜ WalkedBelow
+        (setting (now (words .entry)) (now (bytes .entry)) blocks)
+        (now (state .entry), now (kept .entry)) (blocks - left) left place (now (state .exit), now (kept .exit)) ⌝ }
 {
     let at = blocks - left;
     let lo = wide(bytes[STARTS + at]);
@@ -116,7 +118,9 @@ fn turn(
     requires { ⌜ (0 < left) × (c < 8) × Room (left - 1) (now state) ⌝ }
     requires { ⌜ (lo ≡ start (tables (now words) (now bytes)) (blocks - left)) × (hi ≡ start (tables (now words) (now bytes)) (blocks - left + 1)) ⌝ }
     ensures { λ _. ⌜ length (now (state .exit)) ≡ stateSize ⌝ }
-    ensures { λ _. ⌜ Turned (setting (now (words .entry)) (now (bytes .entry)) blocks) (now (state .entry), now (kept .entry)) (blocks - left) (left - 1) place c (now (state .exit), now (kept .exit)) ⌝ }
+    ensures { λ _. ⌜ Turned
+        (setting (now (words .entry)) (now (bytes .entry)) blocks)
+        (now (state .entry), now (kept .entry)) (blocks - left) (left - 1) place c (now (state .exit), now (kept .exit)) ⌝ }
 {
     let more = step(words, bytes, blocks - left, weight, place, c, lo, hi);
     let next = place * 8 + c;

@@ -20,7 +20,7 @@ module _ (w : ℕ) where
   unfolding classOf
   class-second h k = rw (le-ltb w costLimit h, eq-eqb (w / costLimit % radix) 0 k)
 
-  -- in class 0 no edge breaks a rule: whether anything else is broken, the weight does not tell
+  -- in class 0 no edge breaks a rule; the weight does not show whether anything else is broken
   pub class-unexposed : eqb (classOf w) 0 ≡ isUnexposed w
   unfolding classOf
   class-unexposed = go (isUnexposed w) (eqb (w / costLimit % radix) 0)
@@ -30,7 +30,7 @@ module _ (w : ℕ) where
       go false true = refl
       go false false = refl
 
-  -- nor does it tell the last class
+  -- nor does it show the last class
   pub class-low : classOf w < clashClass
   unfolding classOf
   class-low = go (isUnexposed w) (eqb (w / costLimit % radix) 0)

@@ -1,6 +1,6 @@
--- A weight is one number for a placement that tells its cost and what it breaks: the cost, with `firstPenalty` for each edge that breaks the rule
--- that is looked for first, and `secondPenalty` for each that breaks the other. A cost is below 2^53 and there are at most 32 edges, so that
--- neither the cost nor the first kind ever carries over.
+-- A weight is one number that has a placement's cost and what it breaks: the cost, plus `firstPenalty` for each edge that breaks the rule
+-- that is looked for first, and `secondPenalty` for each edge that breaks the other. A cost is below 2^53 and there are at most 32 edges,
+-- so neither the cost nor the first kind ever carries over.
 use Prim.Native.Nat.{ℕ, _+_, _*_, _/_, _%_, _^_}
 use mathlib.Core.Bool.{Bool, cond}
 use lib.Dec.{ltb, eqb}
@@ -27,8 +27,8 @@ termLimit = (radix + 1) * costLimit
 abbrev pub isUnexposed : ℕ → Bool
 isUnexposed w = ltb w costLimit
 
--- The class of a placement: 0 where it is secure, 1 where it breaks the rule that is looked for first, 2 where it breaks the other alone, and
--- 3 where it breaks neither and is not secure, which no edge decides and the weight does not tell.
+-- The class of a placement: 0 if it is secure, 1 if it breaks the rule that is looked for first, 2 if it breaks the other alone, and 3 if
+-- it breaks neither and is not secure. No single edge decides class 3, so the weight does not show it.
 abbrev pub classes : ℕ
 classes = 4
 

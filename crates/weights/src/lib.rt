@@ -9,12 +9,12 @@ pub const COST_LIMIT: u64 = 9007199254740992;
 // More than there can be edges.
 pub const RADIX: u64 = 33;
 
-// What an edge adds that breaks the rule that is looked for first, and what one adds that breaks the other: 33 times 2^53.
+// What an edge adds if it breaks the rule that is looked for first, and if it breaks the other: 33 times 2^53.
 pub const FIRST_PENALTY: u64 = COST_LIMIT;
 
 pub const SECOND_PENALTY: u64 = 297237575406452736;
 
-// The classes of placements, and their number. No weight tells the last class, of placements that break what no single edge decides.
+// The classes of placements, and their number. The weight does not show the last one: such placements break what no single edge decides.
 pub const SECURE: usize = 0;
 
 pub const BREAKS_FIRST: usize = 1;

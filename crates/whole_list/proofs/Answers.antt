@@ -13,11 +13,11 @@ use Rattle.sequences.specs.Results.{Result, ok, refused, andThen}
 use Rattle.sequences.proofs.Results.{ok-inj, ok-not-refused}
 use Rattle.whole_list.specs.WholeList.{listed, needed, listedIn, listCall, replaced, cleared, rowsAfter, scratchAfter}
 
--- what the call comes to for what Read gives
+-- the result of the call, from Read's result
 abbrev called : Result Description → (room : ℕ) → Result (ℕ × ℕ)
 called r room = andThen r (λ d. listedIn d room)
 
--- the call goes by what Read gives: its answer, and the lent words after it
+-- the call depends on Read's result: its answer, and the lent words after it
 module _ (s : List ℕ) (room : ℕ) {v : Result Description} (gives : read s ≡ v) where
   pub call-goes : listCall s room ≡ called v room
   unfolding listCall
@@ -31,7 +31,7 @@ module _ (s : List ℕ) (room : ℕ) {v : Result Description} (gives : read s �
   unfolding scratchAfter
   scratch-goes words = ap (λ r. replaced r room cleared words) gives
 
--- what is answered for an accepted description, and the lent words after it
+-- the answer for an accepted description, and the lent words after it
 pub record Left (d : Description) (room : ℕ) (answer : Result (ℕ × ℕ)) (front back : List ℕ → List ℕ) : Type 0 where
   pub answers : listedIn d room ≡ answer
   pub rows : (words : List ℕ) → replaced (ok d) room listed words ≡ front words
@@ -48,7 +48,7 @@ module _ (d : Description) (room : ℕ) where
   pub short : room < length (rows d) → Left d room (refused 16 (needed d)) (λ words. words) (λ words. words)
   short h = let t = lt-leb (length (rows d)) room h in record { answers = rw t refl; rows = λ words. rw t refl; scratch = λ words. rw t refl }
 
--- rows that are answered fit into the room
+-- the rows that are answered fit into the room
 pub fits-room : (s : List ℕ) (room : ℕ) (e : ℕ × ℕ) → listCall s room ≡ ok e → e .0 ≤ room
 unfolding listCall
 fits-room s room e = go (read s)

@@ -1,4 +1,4 @@
--- One row more gets its bill: its key is cleared, and its words stand behind those of the rows before it.
+-- One more row gets its bill: its key is cleared, and its words come after those of the rows before it.
 use Prim.Native.Nat.{ℕ, _+_, _*_, _≤_}
 use native.Mathlib.Omega.{arith}
 use mathlib.Core.Path.{_≡_, refl, sym, ap, _∙_}
@@ -17,7 +17,7 @@ use Rattle.whole_list.specs.Billing.{keyAt, billed, billedFront}
 abbrev pub clearedKeys : ℕ → List ℕ → List ℕ
 clearedKeys i keys = replicate (i * 2) 0 ++ drop (i * 2) keys
 
--- before the first row there is none
+-- before the first row there are none
 pub none-billed : (d : Description) (keys : List ℕ) → billedFront d 0 keys ≡ []
 none-billed d keys = ap (λ l. joined (map (billed d) l)) (ap pairs (sym flat-none) ∙ pairs-flat [])
 

@@ -1,4 +1,4 @@
--- List refuses as Read does, or with 16 and the words that the rows need, which are no more than five for each of 65,536 candidates.
+-- List refuses as Read does, or with 16 and the words that the rows need, which are at most five for each of 65,536 candidates.
 use Prim.Native.Nat.{ℕ}
 use native.Mathlib.Omega.{arith}
 use mathlib.Core.List.{List}

@@ -50,7 +50,7 @@ module _ (d : Description) (a : Admitted d) where
       ap flat (sort-map (rowKey d) earlier lower (unsortedRows d) (ordered-rows d a)) ∙
       ap (λ l. flat (map (rowKey d) l)) (sym (rows-sorted d))
 
-  -- the sort makes the one of the other, and leaves what is beyond
+  -- the sort turns the one into the other, and leaves what is beyond
   pub sorted-front : (ws : List ℕ) → sortedFront (length (rows d)) (unsorted d ++ ws) ≡ keys ++ ws
   sorted-front ws =
       sorted-front-is (length (rows d)) (unsorted d ++ ws) ∙
@@ -80,7 +80,7 @@ module _ (d : Description) (a : Admitted d) where
       ap (λ l. joined (map (billed d) l)) (pairs-flat (map (rowKey d) (rows d))) ∙
       ap joined (map-map (billed d) (rowKey d) (rows d) ∙ map-agree _ _ (rows d) billed-row) ∙ sym (listed-words d)
 
-  -- THE STEPS TOGETHER: a walk keeps the keys in the scratch, they are sorted there with the rows' words for spare ones, and billed
+  -- THE STEPS TOGETHER: a walk keeps the keys in the scratch, they are sorted there with the rows' words as spare words, and billed
   module _ (words scratch : List ℕ) (h : needed d ≤ length words) (k : keysNeeded d ≤ length scratch)
       {count : ℕ} {kept : List ℕ} (counted : count ≡ length (rows d)) (keeps : kept ≡ unsorted d ++ drop (keysNeeded d) scratch) where
     fits : roomFor count kept words ≡ true

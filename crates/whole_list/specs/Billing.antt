@@ -1,4 +1,4 @@
--- How a row comes to its words: from its key, with the bill of the placement that the key packs.
+-- How a row gets its words: from its key, with the bill of the placement that the key packs.
 use Prim.Native.Nat.{ℕ, _+_, _-_, _*_, _<_}
 use mathlib.Core.Path.{_≡_}
 use mathlib.Core.List.{List, [], _∷_, _++_, map}
@@ -17,7 +17,7 @@ keyPlacement d place = digits (length (d .blocks)) place ++ replicate (16 - leng
 abbrev pub keyAt : List ℕ → ℕ → ℕ × ℕ
 keyAt keys i = (getD keys (i * 2) 0, getD keys (i * 2 + 1) 0)
 
--- a key's cost is that of its placement; so it is with the first n keys
+-- a key's cost is that of its placement; the same for the first n keys
 abbrev pub Priced : Description → ℕ × ℕ → Type 0
 Priced d key = key .0 ≡ cost d (keyPlacement d (key .1))
 

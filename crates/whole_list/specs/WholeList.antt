@@ -21,11 +21,11 @@ wordsOfRow = 5
 abbrev pub wordsOfKey : ℕ
 wordsOfKey = 2
 
--- a row in lent words: its cost, the clouds of its blocks as digits to the base 8, and what storage, transfers and computing come to
+-- a row in lent words: its cost, the clouds of its blocks as digits to the base 8, and the amounts for storage, transfers and computing
 abbrev pub rowWords : Description → Row → List ℕ
 rowWords d r = rowKey d r .0 ∷ rowKey d r .1 ∷ r .bill .storage ∷ r .bill .transfer ∷ r .bill .cpu ∷ []
 
--- the words of all rows, in the rows' order, and how many they are
+-- the words of all rows, in the rows' order, and how many there are
 unfoldable pub listed : Description → List ℕ
 listed d = joined (map (rowWords d) (rows d))
 
@@ -36,7 +36,7 @@ needed d = length (rows d) * wordsOfRow
 abbrev pub mostWords : ℕ
 mostWords = 327680
 
--- how many rows lent words have room for: the rows have words of their own, and their keys are sorted in the scratch
+-- how many rows the lent words have room for: the rows go into `rows`, and their keys are sorted in `scratch`
 abbrev pub capacity : (rows scratch : ℕ) → ℕ
 capacity rows scratch = min (rows / wordsOfRow) (scratch / wordsOfKey)
 
@@ -45,7 +45,7 @@ abbrev pub listAnswer : Listed → Result (ℕ × ℕ)
 listAnswer (Rows e) = ok (e .rows, e .blocks)
 listAnswer (Refused r) = refused (r .number) (r .place)
 
--- More rows than there is room for are refused as a short buffer is: with number 16, and for a place the words that the rows need.
+-- More rows than there is room for are refused as a short buffer is: with number 16, and the words that the rows need as the place.
 abbrev pub listedIn : Description → (room : ℕ) → Result (ℕ × ℕ)
 listedIn d room = cond (leb (length (rows d)) room) (ok (length (rows d), length (d .blocks))) (refused 16 (needed d))
 
@@ -53,7 +53,7 @@ listedIn d room = cond (leb (length (rows d)) room) (ok (length (rows d), length
 unfoldable pub listCall : List ℕ → (room : ℕ) → Result (ℕ × ℕ)
 listCall s room = andThen (read s) (λ d. listedIn d room)
 
--- lent words after the call: a new front, and beyond it as they were; after a refusal all as they were
+-- lent words after the call: a new front, and beyond it unchanged; after a refusal all unchanged
 abbrev pub replaced : Result Description → (room : ℕ) → (Description → List ℕ) → List ℕ → List ℕ
 replaced (ok d) room front words = cond (leb (length (rows d)) room) (front d ++ drop (length (front d)) words) words
 replaced (refused number place) room front words = words

@@ -1,4 +1,4 @@
-// Rows that were sorted by their keys get their bills: from two words each they become five.
+// Rows that were sorted by their keys get their bills: each grows from two words to five.
 ghost use mathlib.Core.Path.{_≡_};
 ghost use mathlib.Core.List.{[], _∷_, _++_};
 ghost use Prim.Native.Nat.{_+_, _*_, _≤_};
@@ -33,7 +33,7 @@ fn put_row(rows: &mut [u64], at: usize, cost: u64, place: u64, bill: Bill)
     rows[at + 4] = bill.cpu;
 }
 
-// Row i goes to its words, and its key is cleared.
+// Row i is written to its words, and its key is cleared.
 fn bill_row(
     w: &Words,
     rates: &Rates,

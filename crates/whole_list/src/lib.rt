@@ -35,7 +35,7 @@ pub const ROW_WORDS: usize = 5;
 // The words of its key: the first two of them.
 const KEY_WORDS: usize = 2;
 
-// How many rows a list has, and how many blocks each of its placements.
+// How many rows a list has, and how many blocks each of its placements has.
 pub struct Extent {
     pub rows: usize,
     pub blocks: usize,
@@ -55,8 +55,8 @@ fn capacity(rows: &[u64], scratch: &[u64]) -> usize
     if n < m { n } else { m }
 }
 
-// How many rows there are, where that is more than there is room for; otherwise 0. There are no more rows than candidates: only where room
-// is short for those a walk has to count first.
+// How many rows there are, if that is more than there is room for; otherwise 0. There are no more rows than candidates: a walk has to count
+// the rows first only if there is less room than that.
 fn missing(w: &Words, masks: &Masks, candidates: u64, room: usize) -> usize
     requires { ⌜ Admitted (describes (now w)) ⌝ }
     requires { ⌜ (candidates ≡ count (describes (now w))) × (now masks ≡ masksOf (describes (now w))) ⌝ }
@@ -70,7 +70,7 @@ fn missing(w: &Words, masks: &Masks, candidates: u64, room: usize) -> usize
     if rows <= room { 0 } else { rows }
 }
 
-// The walk leaves the rows' keys in the scratch; there they are sorted, with the words for the rows as the spare ones of the sort.
+// The walk leaves the rows' keys in the scratch; they are sorted there, with the words for the rows as the spare words of the sort.
 fn list_fitting(
     w: &Words,
     masks: &Masks,
@@ -83,7 +83,8 @@ fn list_fitting(
     requires { ⌜ (needed (describes (now w)) ≤ length (now rows)) × (keysNeeded (describes (now w)) ≤ length (now scratch)) ⌝ }
     ensures { λ r. ⌜ (r .rows ≡ length (rowsOf (describes (now (w .entry))))) × (r .blocks ≡ length (describes (now (w .entry)) .blocks)) ⌝ }
     ensures { λ _. ⌜ now (rows .exit) ≡ listed (describes (now (w .entry))) ++ drop (needed (describes (now (w .entry)))) (now (rows .entry)) ⌝ }
-    ensures { λ _. ⌜ now (scratch .exit) ≡ replicate (keysNeeded (describes (now (w .entry)))) 0 ++ drop (keysNeeded (describes (now (w .entry)))) (now (scratch .entry)) ⌝ }
+    ensures { λ _. ⌜ now (scratch .exit)
+        ≡ replicate (keysNeeded (describes (now (w .entry)))) 0 ++ drop (keysNeeded (describes (now (w .entry)))) (now (scratch .entry)) ⌝ }
 {
     let count = survey::keep_rows(w, masks, candidates, scratch);
     sorting::sort_rows(scratch, rows, count);
@@ -104,8 +105,12 @@ fn list_accepted(
     requires { ⌜ Admitted (describes (now w)) ⌝ }
     requires { ⌜ (candidates ≡ count (describes (now w))) × (now masks ≡ masksOf (describes (now w))) ⌝ }
     ensures { λ r. ⌜ listAnswer r ≡ listedIn (describes (now (w .entry))) (capacity (length (now (rows .entry))) (length (now (scratch .entry)))) ⌝ }
-    ensures { λ _. ⌜ now (rows .exit) ≡ replaced (ok (describes (now (w .entry)))) (capacity (length (now (rows .entry))) (length (now (scratch .entry)))) listed (now (rows .entry)) ⌝ }
-    ensures { λ _. ⌜ now (scratch .exit) ≡ replaced (ok (describes (now (w .entry)))) (capacity (length (now (rows .entry))) (length (now (scratch .entry)))) cleared (now (scratch .entry)) ⌝ }
+    ensures { λ _. ⌜ now (rows .exit)
+        ≡ replaced (ok (describes (now (w .entry))))
+        (capacity (length (now (rows .entry))) (length (now (scratch .entry)))) listed (now (rows .entry)) ⌝ }
+    ensures { λ _. ⌜ now (scratch .exit)
+        ≡ replaced (ok (describes (now (w .entry))))
+        (capacity (length (now (rows .entry))) (length (now (scratch .entry)))) cleared (now (scratch .entry)) ⌝ }
 {
     let lacking = missing(w, masks, candidates, capacity(rows, scratch));
     if lacking != 0 {
@@ -117,12 +122,15 @@ fn list_accepted(
     Listed::Rows(list_fitting(w, masks, candidates, rows, scratch))
 }
 
-// List: all rows of a description in lent words, five each, and two each of scratch. Nothing is written where the description is refused
+// List: all rows of a description in lent words, five each, and two each of scratch. Nothing is written if the description is refused
 // or the rows do not fit.
 pub fn list(description: &[u8], rows: &mut [u64], scratch: &mut [u64]) -> Listed
     ensures { λ r. ⌜ listAnswer r ≡ listCall (now (description .entry)) (capacity (length (now (rows .entry))) (length (now (scratch .entry)))) ⌝ }
-    ensures { λ _. ⌜ now (rows .exit) ≡ rowsAfter (now (description .entry)) (capacity (length (now (rows .entry))) (length (now (scratch .entry)))) (now (rows .entry)) ⌝ }
-    ensures { λ _. ⌜ now (scratch .exit) ≡ scratchAfter (now (description .entry)) (capacity (length (now (rows .entry))) (length (now (scratch .entry)))) (now (scratch .entry)) ⌝ }
+    ensures { λ _. ⌜ now (rows .exit)
+        ≡ rowsAfter (now (description .entry)) (capacity (length (now (rows .entry))) (length (now (scratch .entry)))) (now (rows .entry)) ⌝ }
+    ensures { λ _. ⌜ now (scratch .exit)
+        ≡ scratchAfter (now (description .entry))
+        (capacity (length (now (rows .entry))) (length (now (scratch .entry)))) (now (scratch .entry)) ⌝ }
 {
     let mut w = [0u32; WORDS];
     let mut masks = [0u8; POSITIONS];

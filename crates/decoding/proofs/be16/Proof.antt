@@ -1,42 +1,33 @@
 -- Two bytes are below 256, so the number that they make is below 65,536.
--- src/decode.rt:56:6
 use Prim.Native.Nat.{_+_}
 use borrow.Author.Needs.{needs}
 use native.Mathlib.Omega.{arith}
 use Rattle.decoding.proofs.be16.Statement.{statement}
 use Rattle.decoding.proofs.be16.Tie as tie
 
--- src/decode.rt:56:6
 shared-slice-read-result : tie.Need-shared-slice-read-result
 shared-slice-read-result c = search needs
 
--- src/decode.rt:56:6
 cast-result : tie.Need-cast-result
 cast-result c = omega (arith, c .shared-slice-known .given (c .before .args .i))
 
--- src/decode.rt:56:5
 mul-result : tie.Need-mul-result
 mul-result c = omega (arith, c .shared-slice-known .given (c .before .args .i))
 
--- src/decode.rt:56:30
 add-result : tie.Need-add-result
 add-result c = search needs
 
--- src/decode.rt:56:28
 shared-slice-read-result-2 : tie.Need-shared-slice-read-result-2
 shared-slice-read-result-2 c = search needs
 
--- src/decode.rt:56:28
 cast-result-2 : tie.Need-cast-result-2
 cast-result-2 c = omega (arith, c .shared-slice-known2 .given (c .before .before .args .i + 1))
 
--- src/decode.rt:56:5
 add-result-2 : tie.Need-add-result-2
 add-result-2 c =
     let i = c .before .before .args .i in
     omega (arith, c .before .shared-slice-known .given i, c .shared-slice-known2 .given (i + 1))
 
--- src/decode.rt:52:1
 returns : tie.Need-returns
 returns c = search needs
 

@@ -1,4 +1,4 @@
--- What was read; where it is refused, the words are cleared.
+-- What was read; if it is refused, the words are cleared.
 use borrow.Author.Needs.{needs}
 use mathlib.Core.Path.{sym, ap, subst, _∙_}
 use Rattle.description.specs.Meaning.{describes, outcomeOf, Cleared}

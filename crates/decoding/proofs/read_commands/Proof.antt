@@ -144,7 +144,8 @@ refuse-requires-3 c κs = search needs
 returns-4 : tie.Need-returns-4 Inv-loop μ-loop
 returns-4 c =
     let at = c .before .before in
-    ap (λ o. outcomeOf o (describes (at .loop .w))) (c .refuse3 .ensures) ∙ sym (nothing-left _ (at .loop .at) (describes (at .loop .w)) (search needs)) ∙ at .loop .inv .1
+    let d = describes (at .loop .w) in
+    ap (λ o. outcomeOf o d) (c .refuse3 .ensures) ∙ sym (nothing-left _ (at .loop .at) d (search needs)) ∙ at .loop .inv .1
 
 pub read-commands-spec : {M : Type 1} → statement M
 read-commands-spec =

@@ -1,5 +1,4 @@
--- What all commands give, with a cloud and a block at least.
--- 8 is tested of the clouds and then of the blocks
+-- What all commands give, with at least a cloud and a block.
 use Prim.Native.Nat.{ℕ}
 use borrow.Author.Needs.{needs}
 use borrow.Author.Tests.{eq-eqb, ne-eqb}

@@ -1,4 +1,4 @@
--- What Read answers has the number of blocks.
+-- Read's answer has the number of blocks.
 use native.Mathlib.Omega.{arith}
 use mathlib.Core.Path.{sym, ap, _∙_}
 use Rattle.judging.specs.Answers.{readAnswer}

@@ -1,4 +1,4 @@
--- Before each draw the cursor is that of the chain, and the draws left fall.
+-- Before each draw the cursor is that of the chain, and the number of draws left falls.
 use Prim.Native.Nat.{suc, _-_, _≤_}
 use native.Mathlib.Numerals.{add-one}
 use native.Mathlib.Omega.{arith}

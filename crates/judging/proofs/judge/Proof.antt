@@ -1,4 +1,4 @@
--- The verdict on what is accepted; a refusal is passed on.
+-- The verdict on an accepted description; a refusal is passed on.
 use mathlib.Core.Path.{_≡_, sym, ap, _∙_}
 use Rattle.description.specs.Meaning.{describes}
 use Rattle.security.specs.Soundness.{read}

@@ -1,4 +1,4 @@
--- The masks of what is accepted; a refusal is passed on.
+-- The masks of an accepted description; a refusal is passed on.
 use mathlib.Core.Path.{sym, ap, _∙_}
 use mathlib.Core.List.{List}
 use Prim.Native.Nat.{ℕ}
@@ -22,11 +22,11 @@ enum-told c = search needs
 enum-known-admission : tie.Need-enum-known-admission
 enum-known-admission c = search needs
 
--- what the call comes to for what Read gives
+-- the result of the call, from Read's result
 abbrev called : Result Description → Result (Unit {0})
 called r = andThen (masked r) (λ (ms : List ℕ). ok tt)
 
--- and what it leaves of the lent bytes
+-- and what it leaves in the lent bytes
 abbrev lent : List ℕ → Result Description → List ℕ
 lent before r = masksAfter (masked r) before
 

@@ -1,4 +1,4 @@
--- The counts of what is accepted; a refusal is passed on.
+-- The counts of an accepted description; a refusal is passed on.
 use mathlib.Core.Path.{sym, ap, _∙_}
 use Rattle.description.specs.Meaning.{describes}
 use Rattle.security.specs.Soundness.{read}

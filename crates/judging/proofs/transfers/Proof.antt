@@ -1,4 +1,4 @@
--- What is accepted goes on to the verdict; a refusal leaves the buffer.
+-- An accepted description goes on to the verdict; a refusal leaves the buffer unchanged.
 use mathlib.Core.Path.{_≡_, sym, ap, _∙_}
 use lib.ListN.{length}
 use mathlib.Core.List.{List}
@@ -42,7 +42,7 @@ enum-known-admission c = search needs
 same-length : tie.Need-same-length
 same-length c = search needs
 
--- what the call comes to for what Read gives
+-- the result of the call, from Read's result
 abbrev called : List ℕ → ℕ → Result Description → Result (List Transfer)
 called placement room r = andThen r (λ (d : Description). andThen (judge d placement) (λ (u : Unit {0}). fitted room (transfers d placement)))
 

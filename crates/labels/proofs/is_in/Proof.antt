@@ -1,4 +1,4 @@
--- A bit is what is left of its number after a division.
+-- A bit is the remainder by 2 after a division.
 use Prim.Native.Nat.{_%_}
 use mathlib.Core.Path.{sym}
 use borrow.Author.Needs.{needs}

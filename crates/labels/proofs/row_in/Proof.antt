@@ -7,7 +7,7 @@ use borrow.Author.Needs.{needs}
 use Rattle.labels.proofs.row_in.Statement.{statement}
 use Rattle.labels.proofs.row_in.Tie as tie
 
--- what is none of the numbers below n, as the last arm has it, is n at least
+-- a number that is none of those below n, as the last arm knows, is at least n
 abbrev NoneBelow : ℕ → ℕ → Type 0
 NoneBelow zero x = Unit {0}
 NoneBelow (suc n) x = NoneBelow n x × (x ≡ n → ⊥)
@@ -25,7 +25,7 @@ last c =
     let low = c .before .before .pre in
     here (c .before .before) (omega (arith, past-others, low))
 
--- 64 times: the place lies in the array, and the arm reads there what the label asks for
+-- 64 times: the place is within the array, and the arm reads the label's word there
 pub row-in-spec : {M : Type 1} → statement M
 row-in-spec =
     tie.close

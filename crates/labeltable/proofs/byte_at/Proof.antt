@@ -1,4 +1,4 @@
--- Each return by the tests that led there.
+-- Each return follows from the tests that lead there.
 use Prim.Native.Nat.{_%_}
 use native.Mathlib.Omega.{arith}
 use mathlib.Core.Path.{sym, _∙_}

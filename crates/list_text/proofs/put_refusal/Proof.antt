@@ -1,4 +1,4 @@
--- The parts make up the line, and it is put as it is.
+-- The parts make up the line, and it is put into the buffer.
 use borrow.Author.Needs.{needs}
 use mathlib.Core.Path.{ap, _∙_}
 use Rattle.list_text.specs.Lines.{placed, placedEnd}

@@ -1,4 +1,4 @@
--- The census of what is accepted; a refusal is passed on.
+-- The census of an accepted description; a refusal is passed on.
 use mathlib.Core.Path.{sym, ap, _∙_}
 use Rattle.decoding.specs.Bytes.{Bytes}
 use Rattle.description.specs.Meaning.{describes}

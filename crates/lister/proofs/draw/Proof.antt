@@ -1,4 +1,4 @@
--- The row of what is accepted; a refusal is passed on.
+-- The row of an accepted description; a refusal is passed on.
 use mathlib.Core.Path.{sym, ap, _∙_}
 use mathlib.Core.Option.{Option}
 use Rattle.description.specs.Declarations.{Description}
@@ -52,7 +52,7 @@ enum-known-admission-2 c = search needs
 refused-requires : tie.Need-refused-requires
 refused-requires c κs = search needs
 
--- what the call comes to for what Read gives
+-- the result of the call, from Read's result
 abbrev called : Cursor → Result Description → Result (Option Row)
 called cursor r = andThen r (λ d. ok (draw d cursor))
 

@@ -1,4 +1,4 @@
--- The array is as long as it is written.
+-- The array has the length that is written.
 use Prim.Native.Nat.{ℕ}
 use lib.ListN.{length-replicate}
 use Rattle.listoptions.specs.Making.{heldBytes}

@@ -14,13 +14,13 @@ use Rattle.listoptions.specs.Making.{lastLine}
 use Rattle.listoptions.proofs.put_last.Statement.{statement}
 use Rattle.listoptions.proofs.put_last.Tie as tie
 
--- what was put where it fits
+-- what was put, if it fits
 fitted : (line before after : List ℕ) (at end most : ℕ) → at + 64 ≤ length before → most ≤ 64
     → (end ≡ placedEnd line before at) × (after ≡ placed line before at) × (length line ≤ most) → (end ≡ at + length line) × (after ≡ written line before at)
 fitted line before after at end most h few (p, q, short) =
     let fits = le-leb (at + length line) (length before) (omega arith) in (rw fits at p, rw fits at q)
 
--- the same of an answer that is x
+-- the same for an answer that is x
 answered : {x y : Result (ℕ × ℕ)} (before after : List ℕ) (at end : ℕ) → y ≡ x
     → (end ≡ at + length (lastLine x)) × (after ≡ written (lastLine x) before at)
     → (end ≡ at + length (lastLine y)) × (after ≡ written (lastLine y) before at)

@@ -1,4 +1,4 @@
--- The pages and the last line, one behind the other, are what is printed.
+-- The pages and the last line, one after the other, are what is printed.
 use Prim.Native.Nat.{ℕ, _+_, _*_, _≤_}
 use native.Mathlib.Omega.{arith}
 use mathlib.Core.Path.{_≡_, sym, ap, ap₂, subst, _∙_}
@@ -20,7 +20,7 @@ list-requires c κs = search needs
 extent-of-requires : tie.Need-extent-of-requires
 extent-of-requires c κs = search needs
 
--- the room that List is lent is for 65,536 rows
+-- List is lent room for 65,536 rows
 room : (c : tie.After-list) → let a = c .before .before .before .before .before .before .before .args in
     capacity (length (a .rows .now)) (length (a .scratch .now)) ≡ heldRows
 room c = let h = c .before .before .before .before .before .before .before .pre in λ i. capacity (h .0 i) (h .1 i)
@@ -93,7 +93,7 @@ returns c = λ e. absurd (true≢false (sym e ∙ not-true _ (c .if1 .taken)))
 put-last-requires : tie.Need-put-last-requires
 put-last-requires c κs = search needs
 
--- all lines of the rows were taken
+-- all lines of the rows were handed over
 sent : (c : tie.After-put-last) → let pages = c .before .before .before .before .before .before in
     pages .write-pages .result .bytes ≡ length (lines (pages .before .before .before .before))
 sent c =

@@ -1,4 +1,4 @@
--- The front of the text ends within it, and what was handed over stays far below a machine word.
+-- The front of the text ends within it, and the count of bytes handed over stays far below a machine word.
 use native.Mathlib.Omega.{arith}
 use lib.ListN.{length-take}
 use borrow.Author.Needs.{needs}

@@ -1,5 +1,5 @@
--- Page by page: what was handed over are the lines of the pages before the next one.
-use Prim.Native.Nat.{ℕ, _+_, _-_, _*_, _≤_}
+-- Page by page: the lines of the pages before the next one were handed over.
+use Prim.Native.Nat.{_+_, _-_, _*_, _≤_}
 use native.Mathlib.Omega.{arith}
 use mathlib.Core.Path.{_≡_, refl, sym, ap, ap₂, subst, _∙_}
 use mathlib.Core.Bool.{true≢false}

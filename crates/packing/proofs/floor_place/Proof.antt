@@ -47,7 +47,8 @@ returns c =
     let l = c .before .before .loop in
     let f = l .inv .3 ∙ floor-stop (l .packed) (s .args .blocks) (l .b) (s .args .t1) (omega arith) (omega arith) (c .if1 .taken) in
     let r = floor-is (s .args .t1) (s .args .blocks) (s .pre) (l .inv .2) in
-    let small : floorFrom 0 (s .args .blocks) (s .args .t1) < 2 ^ 64 = omega (arith, r .within, pow-le-pow-right {n = 8} (omega arith) {i = s .args .blocks} {j = 16} (s .pre)) in
+    let power = pow-le-pow-right {n = 8} (omega arith) {i = s .args .blocks} {j = 16} (s .pre) in
+    let small : floorFrom 0 (s .args .blocks) (s .args .t1) < 2 ^ 64 = omega (arith, r .within, power) in
     rw (← f, mod-eq-of-lt small) r
 
 mul-packed : tie.Need-mul-packed Inv-loop μ-loop

@@ -1,5 +1,5 @@
--- The clouds below `b` are stored, and zeros stand from there on.
-use Prim.Native.Nat.{_+_, _-_, _≤_}
+-- The clouds of the blocks below `b` are stored, and zeros follow.
+use Prim.Native.Nat.{_-_, _≤_}
 use native.Mathlib.Omega.{arith}
 use mathlib.Core.Path.{_≡_, refl, ap, _∙_}
 use mathlib.Core.List.{_++_}

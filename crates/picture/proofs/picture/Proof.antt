@@ -1,4 +1,4 @@
--- What is secure is written; a refusal leaves the buffer.
+-- A secure placement is written; a refusal leaves the buffer unchanged.
 use mathlib.Core.Path.{sym, ap, _∙_}
 use mathlib.Core.List.{List}
 use Prim.Native.Nat.{ℕ}
@@ -29,7 +29,7 @@ written-requires c κs = search needs
 same-length : tie.Need-same-length
 same-length c = search needs
 
--- what the call comes to for what was judged
+-- the result of the call, from what was judged
 abbrev called : List ℕ → ℕ → Result Description → Result (List ℕ)
 called p room r = andThen r (λ d. fitted room (picture d p))
 

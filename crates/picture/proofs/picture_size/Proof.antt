@@ -1,4 +1,4 @@
--- The size of what is secure; a refusal is passed on.
+-- The size for a secure placement; a refusal is passed on.
 use mathlib.Core.Path.{sym, ap, _∙_}
 use lib.ListN.{length}
 use Prim.Native.Nat.{ℕ}

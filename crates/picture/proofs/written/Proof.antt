@@ -1,4 +1,4 @@
--- The text is drawn on the sheet; it is copied to a buffer that has room for it, and another is left as it was.
+-- The text is drawn on the sheet; it is copied to a buffer that has room for it, and any other is left unchanged.
 use native.Mathlib.Omega.{arith}
 use mathlib.Core.Path.{_≡_, sym, ap, _∙_}
 use Prim.Native.Nat.{ℕ}

@@ -72,7 +72,7 @@ array-read-unpacked c = search needs
 unpacked-requires : tie.Need-unpacked-requires
 unpacked-requires c κs = omega (arith, c .before .before .before .before .before .before .block-count .ensures .1)
 
--- the cost that was kept, and the row that the draw answers
+-- the kept cost, and the row that the draw answers
 answered : (c : tie.After-unpacked) → let seen = c .before .before .before in
     let words = seen .walk-candidates .last .1 .1 .1 .0 in
     let a = seen .before .before .before .before .before .args in

@@ -1,4 +1,4 @@
--- The start has the lowest floor; any other cursor its cost and the floor of its bytes.
+-- The start has the lowest floor; any other cursor has its cost and the floor of its bytes.
 use mathlib.Core.Path.{sym, ap, _∙_}
 use Prim.Native.Nat.{ℕ, _-_}
 use mathlib.Core.Bool.{Bool, _||_, _&&_}
@@ -13,7 +13,7 @@ use borrow.Author.Needs.{needs}
 use Rattle.survey.proofs.to_draw_past.Statement.{statement}
 use Rattle.survey.proofs.to_draw_past.Tie as tie
 
--- a row of n blocks is past a cursor at the start, or behind the cursor's cost and bytes
+-- a row of n blocks is past a cursor at the start, or after the cursor's cost and bytes
 abbrev behind : Cursor → (n cost : ℕ) → List ℕ → Bool → Bool
 behind c n cost q start =
     start || before (c .cost ∷ c .placement) (cost ∷ (q ++ replicate (16 - n) 0))

@@ -1,4 +1,4 @@
--- With no candidates there is nothing to walk over.
+-- If there are no candidates, there is nothing to walk over.
 use mathlib.Core.Path.{sym, _∙_}
 use Rattle.description.specs.Meaning.{describes}
 use Rattle.survey.proofs.Joins.{none-seen, none-kept-words}

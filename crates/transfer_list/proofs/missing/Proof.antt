@@ -1,4 +1,4 @@
--- Four bytes for each transfer are needed, and an edge makes one at most.
+-- Four bytes are needed for each transfer, and an edge makes at most one.
 use mathlib.Core.Path.{_≡_, sym, ap, _∙_}
 use mathlib.Core.Bool.{cond}
 use native.Mathlib.Omega.{arith}
@@ -13,7 +13,7 @@ use Rattle.transfer_list.proofs.Transferring.{bytes-length, transfers-f
 use Rattle.transfer_list.proofs.missing.Statement.{statement}
 use Rattle.transfer_list.proofs.missing.Tie as tie
 
--- what there is room for lacks nothing
+-- if there is room, nothing is missing
 fits : (n room : ℕ) → n ≤ room → 0 ≡ cond (leb n room) 0 n
 fits n room h = sym (ap (λ b. cond b 0 n) (le-leb n room h))
 

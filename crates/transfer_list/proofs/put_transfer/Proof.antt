@@ -1,4 +1,4 @@
--- Four stores, one behind the other, where the edge moves its datum; otherwise none.
+-- Four stores in a row if the edge moves its datum; otherwise none.
 use mathlib.Core.Path.{refl, sym, _∙_}
 use native.Mathlib.Omega.{arith}
 use Prim.Native.Nat.{_≤_}
@@ -17,7 +17,7 @@ moves-requires c κs = search needs
 returns : tie.Need-returns
 returns c = simp (sym (c .before .moves .ensures) ∙ not-true _ (c .if1 .taken)) (omega arith, refl)
 
--- an edge that moves its datum has room for four bytes
+-- for an edge that moves its datum there is room for four bytes
 room : (c : tie.Else1) → c .before .before .before .args .at + 4 ≤ length (c .before .before .before .args .buffer .now)
 room c = simp (sym (c .before .moves .ensures) ∙ not-false _ (c .if1 .left)) at (c .before .before .before .pre)
 

@@ -41,7 +41,7 @@ wide-requires-2 c κs = search needs
 edge-at-requires : tie.Need-edge-at-requires Inv-loop μ-loop
 edge-at-requires c κs = search needs
 
--- the edge in hand is edge i of the description, and its transfer fits
+-- the current edge is edge i of the description, and its transfer fits
 edge-is : (c : tie.After-edge-at Inv-loop μ-loop)
     → let at = c .before .before .before .before in
     c .edge-at .result ≡ getD (describes (at .before .before .before .args .w .now) .edges) (at .loop .i) noEdge

@@ -1,4 +1,4 @@
--- With room for them all transfers are written; otherwise the buffer stays.
+-- If there is room for them, all transfers are written; otherwise the buffer stays.
 use mathlib.Core.Path.{sym, ap, _∙_}
 use mathlib.Core.List.{List}
 use Prim.Native.Nat.{ℕ}

@@ -1,4 +1,4 @@
--- A secure placement goes on to the buffer; a refusal leaves it.
+-- The transfers of a secure placement go to the buffer; a refusal leaves it unchanged.
 use mathlib.Core.Path.{sym, ap, _∙_}
 use lib.ListN.{length}
 use Rattle.description.specs.Meaning.{describes}

@@ -1,4 +1,4 @@
--- By its weight, and where no edge breaks a rule by the conflict test.
+-- By its weight, and if no edge breaks a rule, by the conflict test.
 use native.Mathlib.Omega.{arith}
 use mathlib.Core.Path.{sym, _∙_}
 use Rattle.visit.specs.Tables.{Tests, testsIn}

@@ -1,4 +1,4 @@
--- One more of its class; broken, or no row, or a row that is kept and counted.
+-- One more of its class; then it breaks a rule, or is no row, or is a row that is kept and counted.
 use native.Mathlib.Omega.{arith}
 use mathlib.Core.Path.{_≡_, sym, ap, _∙_}
 use borrow.Author.Tests.{not-true, not-false}
@@ -11,7 +11,7 @@ use borrow.Author.Needs.{needs}
 use Rattle.visit.proofs.count.Statement.{statement}
 use Rattle.visit.proofs.count.Tie as tie
 
--- the start, from where the class was counted
+-- the start, seen from after the class was counted
 abbrev start : tie.After-count-class → tie.Start
 start c = c .before .before .before .before .before
 
@@ -43,7 +43,7 @@ returns c =
       sym (kept-other (a .weight) (a .place) (tests d) (a .state .now) (a .kept .now) other),
     )
 
--- a secure placement is a row where it passes the row test
+-- a secure placement is a row if it passes the row test
 row-is : (c : tie.After-stands) → let d = c .before .before in isRow (start d .args .weight) (tests d) ≡ c .stands .result
 row-is c =
     let d = c .before .before in

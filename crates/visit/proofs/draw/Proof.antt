@@ -1,4 +1,4 @@
--- Not wanted, or a conflict is broken, or it does not stand for its option, or the best from there on.
+-- Not wanted, or two blocks in conflict share a cloud, or it does not represent its option, or it becomes the best row.
 use mathlib.Core.Path.{sym, ap, ap₂, _∙_}
 use borrow.Author.Tests.{not-true, not-false}
 use mathlib.Core.Bool.{_&&_, and-false}

@@ -1,4 +1,4 @@
--- By its tests, one of the cases of a row that is wanted or not.
+-- The tests lead to one of the cases in which a row is wanted or not.
 use native.Mathlib.Omega.{arith}
 use mathlib.Core.Path.{_≡_, sym, _∙_}
 use mathlib.Core.Logic.{⊎-elim}

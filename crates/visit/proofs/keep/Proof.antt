@@ -1,4 +1,4 @@
--- The row is put behind those before it, or there is no room for it.
+-- The row is stored after those before it, or there is no room for it.
 use Prim.Native.Nat.{_*_}
 use mathlib.Core.Path.{sym}
 use lib.Seq.{lt-length-set}

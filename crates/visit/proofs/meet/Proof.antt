@@ -1,4 +1,4 @@
--- A draw drops what weighs more than its best row; anything else is looked at.
+-- A draw drops what weighs more than its best row; everything else is looked at.
 use native.Mathlib.Omega.{arith}
 use mathlib.Core.Path.{sym, _∙_}
 use lib.ListN.{getD}
@@ -10,7 +10,7 @@ use borrow.Author.Needs.{needs}
 use Rattle.visit.proofs.meet.Statement.{statement}
 use Rattle.visit.proofs.meet.Tie as tie
 
--- the tests, which are not made
+-- the tests, which are not computed
 abbrev tests : tie.Start → Tests
 tests s = let a = s .args in testsIn (a .bytes .now) (a .blocks) (a .place)
 

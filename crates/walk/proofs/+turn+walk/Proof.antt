@@ -1,4 +1,4 @@
--- The walk meets the placements below its prefix, in order, and each turn those with one cloud more.
+-- The walk meets the placements below its prefix, in order; each turn meets those with one more cloud.
 use borrow.Author.Needs.{needs}
 use Prim.Native.Nat.{ℕ, _+_, _-_, _*_, _<_}
 use native.Mathlib.Nat.{one-le-pow}
@@ -28,7 +28,7 @@ use Rattle.walk.proofs.without_lowest.Reads as without-lowest-reads
 use Rattle.walk.proofs.+turn+walk.{statement}
 use Rattle.walk.proofs.+turn+walk.Tie.{close}
 
--- a turn with n blocks left comes before the walk that it is a turn of, and after the walk with one less
+-- the measure of a turn with n blocks left is below that of the walk that it is a turn of, and above that of the walk with one block less
 abbrev μ-turn : Measures 4 turn-kinds.ps ℕ
 μ-turn κs a = 2 * (a .1 .1 .1 .0)
 
@@ -47,7 +47,7 @@ walk-at t = and 4 walk-kinds.ps (is 4 walk-kinds.ps μ-walk t) walk.Pre
 abbrev walk-below : ℕ → In 4 walk-kinds.ps
 walk-below t = and 4 walk-kinds.ps (falls 4 walk-kinds.ps _<_ μ-walk t) walk.Pre
 
--- what the functions called ask and give: those that are proved already, and of the two the one called, where its measure falls
+-- what the called functions ask and give: those proved already, and whichever of these two is called, with a lower measure
 abbrev in-turns : ℕ → turn-lts.Claims
 in-turns t = (step-reads.Asked, step-reads.Learnt, meet-reads.Asked, meet-reads.Learnt, walk-below t, walk.Post)
 

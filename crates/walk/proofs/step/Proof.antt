@@ -1,4 +1,4 @@
--- `step` carries the weight over one block: the loop keeps the terms of the blocks up to it and of the edges before `e`.
+-- `step` takes the weight on by one block: the loop keeps the terms of the blocks up to it and of the edges before `e`.
 use borrow.Author.Needs.{needs}
 use Prim.Native.Nat.{ℕ, _+_, _-_, _*_, _≤_, _<_, _/_, _%_, _^_}
 use native.Mathlib.Omega.{arith}
@@ -32,7 +32,7 @@ ready s = s .pre .1 .0 .2
 few : (s : tie.Start Inv-loop μ-loop) → s .args .at < 16
 few s = omega (arith, s .pre .1 .0 .1, s .pre .1 .0 .2 .few)
 
--- the ends of the edge at hand
+-- the ends of the current edge
 ends-here : (c : tie.After-wide Inv-loop μ-loop)
     → let s = c .before .before .before .before .before in
     let e = c .before .before .before .loop .e in

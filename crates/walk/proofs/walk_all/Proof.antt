@@ -1,4 +1,4 @@
--- The walk from no block on meets every placement.
+-- The walk below the empty prefix meets every placement.
 use native.Mathlib.Omega.{arith}
 use borrow.Author.Needs.{needs}
 use Rattle.walk.specs.Turning.{Setting, setting}

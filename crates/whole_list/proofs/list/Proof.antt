@@ -1,4 +1,4 @@
--- The list of what is accepted; a refusal is passed on.
+-- The list of an accepted description; a refusal is passed on.
 use mathlib.Core.Path.{sym, _∙_}
 use lib.ListN.{length}
 use Rattle.decoding.specs.Bytes.{Bytes}

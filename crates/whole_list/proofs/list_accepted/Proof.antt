@@ -1,4 +1,4 @@
--- What is accepted is listed where there is room, and else refused as it was lent.
+-- An accepted description is listed if there is room; otherwise it is refused and the lent words are unchanged.
 use Prim.Native.Nat.{ℕ, _*_, _≤_, _<_}
 use mathlib.Core.Path.{_≡_, sym, ap, _∙_}
 use mathlib.Core.List.{_++_}
@@ -23,7 +23,7 @@ capacity-requires c κs = search needs
 missing-requires : tie.Need-missing-requires
 missing-requires c κs = search needs
 
--- some rows are missing: all of them
+-- not zero is missing: then it is all of the rows
 lacks : (c : tie.Then1) → let d = describes (c .before .before .before .before .before .before .before .args .w .now) in
     (c .before .before .capacity .result < length (rows d)) × (c .before .missing .result ≡ length (rows d))
 lacks c =

@@ -1,5 +1,4 @@
--- How many rows there are, where the room is less.
-use Prim.Native.Nat.{_≤_}
+-- How many rows there are, if there is less room.
 use mathlib.Core.Path.{_≡_, sym, ap, _∙_}
 use mathlib.Core.Bool.{cond}
 use native.Mathlib.Omega.{arith}
@@ -23,7 +22,7 @@ returns c =
 count-all-requires : tie.Need-count-all-requires
 count-all-requires c κs = search needs
 
--- the options are the rows
+-- there are as many options as rows
 counted : (c : tie.After-count-all) → c .count-all .result .options ≡ length (rows (describes (c .before .before .args .w .now)))
 counted c = ap (λ x. x .options) (c .count-all .ensures) ∙ sym (options-number (describes (c .before .before .args .w .now)))
 

@@ -32,7 +32,7 @@ blocks-cost-requires-2 c κs = let count = c .before .before in (count .block-co
 
 -- ---- the amounts
 
--- of data, by the prices and by the description; of copies
+-- for data, by the prices and by the description; for copies
 stored : (c : tie.After-blocks-cost) → let a = c .before .before .args in
     c .blocks-cost .result ≡ ofBlocks storageOf (describes (a .w .now)) (a .placement .now)
 stored c =

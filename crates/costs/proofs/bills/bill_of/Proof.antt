@@ -1,4 +1,4 @@
--- Both arrays are lent full of zeros, and come back filled.
+-- Both arrays are lent full of zeros, and returned filled.
 use borrow.Author.Needs.{needs}
 use Rattle.costs.proofs.bills.bill_of.Statement.{statement}
 use Rattle.costs.proofs.bills.bill_of.Tie as tie

@@ -1,4 +1,4 @@
--- The sum so far and the sum from block b on make the whole.
+-- The sum so far and the sum from block b on make up the whole.
 use Prim.Native.Nat.{ℕ, _+_, _-_, _*_, _≤_, _<_}
 use native.Mathlib.Nat.{zero-add}
 use native.Mathlib.Omega.{arith}

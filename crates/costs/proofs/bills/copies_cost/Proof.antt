@@ -1,4 +1,4 @@
--- The sum so far and the sum from edge i on make the whole. Both ends of an edge are blocks.
+-- The sum so far and the sum from edge i on make up the whole. Both ends of an edge are blocks.
 use Prim.Native.Nat.{ℕ, _+_, _-_, _*_, _≤_, _<_}
 use native.Mathlib.Nat.{zero-add}
 use native.Mathlib.Omega.{arith}

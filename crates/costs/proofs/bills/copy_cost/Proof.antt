@@ -1,4 +1,4 @@
--- By whether both ends stand together.
+-- By cases: whether both ends stand on one cloud.
 use Prim.Native.Nat.{ℕ}
 use native.Mathlib.Omega.{arith}
 use mathlib.Core.Path.{_≡_, sym, ap, _∙_}
@@ -36,7 +36,7 @@ amount-at-requires c κs =
     let here = c .before .wide3 .ensures ∙ ap (λ n. getD (s .args .placement .now) n 0) (service .wide .ensures) in
     (rw here (s .pre .2 (s .args .e .service)), omega (arith, s .pre .1, c .wide4 .ensures))
 
--- the clouds of both ends, and what a copy on the service's is charged
+-- the clouds of both ends, and what a copy on the service's cloud is charged
 ends : (c : tie.After-amount-at)
     → let datum = c .before .before .before .before in
     let service = datum .before .before in

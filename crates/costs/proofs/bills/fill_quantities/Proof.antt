@@ -1,4 +1,4 @@
--- Row by row, those of declared blocks; the others are 0.
+-- Row by row for the declared blocks; the other entries are 0.
 use Prim.Native.Nat.{ℕ, _-_, _*_, _/_, _%_, _≤_}
 use native.Mathlib.Omega.{arith}
 use mathlib.Core.Path.{ap, _∙_}

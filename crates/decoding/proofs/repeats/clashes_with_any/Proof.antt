@@ -1,4 +1,4 @@
--- The edges from i on hold a clash exactly when all of them do.
+-- The edges from i on have a clash exactly if all edges do.
 use Prim.Native.Nat.{_≤_, _-_}
 use borrow.Author.Needs.{needs}
 use lib.ListN.{length, drop}

@@ -1,4 +1,4 @@
--- Each return by the tests that led there.
+-- Each return follows from the tests that lead there.
 use borrow.Author.Tests.{eq-eqb, ne-eqb}
 use Rattle.decoding.proofs.repeats.named_by.Statement.{statement}
 use Rattle.decoding.proofs.repeats.named_by.Tie as tie

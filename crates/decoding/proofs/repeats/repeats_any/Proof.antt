@@ -1,4 +1,4 @@
--- The pairs from i on hold one of the same data exactly when all of them do.
+-- The pairs from i on have one with the same data exactly if all pairs do.
 use Prim.Native.Nat.{_≤_, _-_}
 use borrow.Author.Needs.{needs}
 use lib.ListN.{length, drop}

@@ -1,4 +1,4 @@
--- Every field is in its range, and the tag is the kind's.
+-- Every field is in its range, and the tag is that of the kind.
 use borrow.Author.Needs.{needs}
 use native.Mathlib.Omega.{arith}
 use Rattle.description.proofs.Fields.{datum-back, service-back}

@@ -1,4 +1,4 @@
--- The element goes behind those that count.
+-- The element goes after those that count.
 use Prim.Native.Nat.{_+_}
 use borrow.Author.Needs.{needs}
 use mathlib.Core.Path.{ap, ap₂, _∙_}

@@ -1,4 +1,4 @@
--- The block's record is put anew.
+-- The block's record is replaced.
 use borrow.Author.Needs.{needs}
 use lib.ListN.{set}
 use mathlib.Core.Path.{ap, _∙_}

@@ -1,4 +1,4 @@
--- What is decoded goes on to the rules; a refusal is passed on, and leaves the words cleared and the masks as they were.
+-- What is decoded is tested by the rules; a refusal is passed on, and leaves the words cleared and the masks unchanged.
 use mathlib.Core.Path.{sym, ap, subst, _∙_}
 use Rattle.description.specs.Meaning.{describes, outcomeOf, Cleared}
 use Rattle.security.specs.Soundness.{sound}

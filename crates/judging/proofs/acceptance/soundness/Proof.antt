@@ -1,4 +1,4 @@
--- Each return by what the searches before it found.
+-- Each return follows from what the searches before it found.
 use mathlib.Core.Path.{_≡_, sym, ap, _∙_}
 use mathlib.Core.List.{List}
 use native.Mathlib.Omega.{arith}
@@ -17,7 +17,7 @@ use borrow.Author.Needs.{needs}
 use Rattle.judging.proofs.acceptance.soundness.Statement.{statement}
 use Rattle.judging.proofs.acceptance.soundness.Tie as tie
 
--- a refusal is told, and leaves the masks
+-- a refusal is reported, and leaves the masks unchanged
 told : (d : Description) {o : Admission} {number place : ℕ} {v : Result Description} → o ≡ Refused (record { number = number; place = place })
     → v ≡ refused number place → (masks : List ℕ) → (admissionOf o d ≡ counted v) × (masks ≡ masksAfter (masked v) masks)
 told d e r masks = (ap (λ o. admissionOf o d) e ∙ sym (ap counted r), sym (ap (λ v. masksAfter (masked v) masks) r))

@@ -1,4 +1,4 @@
--- The number stands behind the space.
+-- The number comes after the space.
 use Prim.Native.Nat.{_+_}
 use native.Mathlib.Omega.{arith}
 use borrow.Author.Needs.{needs}

@@ -1,4 +1,4 @@
--- Each part is written behind the one before it.
+-- Each part is written after the one before it.
 use Prim.Native.Nat.{_+_}
 use native.Mathlib.Omega.{arith}
 use borrow.Author.Needs.{needs}

@@ -1,4 +1,4 @@
--- Each part of the line is written behind the one before it.
+-- Each part of the line is written after the one before it.
 use native.Mathlib.Omega.{arith}
 use borrow.Author.Needs.{needs}
 use lib.ListN.{length-set}

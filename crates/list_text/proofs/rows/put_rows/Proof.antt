@@ -1,4 +1,4 @@
--- Row by row: the lines of the rows before the next one stand in the buffer, and there is room for the lines of the rows that are left.
+-- Row by row: the lines of the rows before the next one are in the buffer, and there is room for the lines of the rows that are left.
 use Prim.Native.Nat.{ℕ, _+_, _-_, _*_, _≤_}
 use native.Mathlib.Omega.{arith}
 use borrow.Author.Needs.{needs}

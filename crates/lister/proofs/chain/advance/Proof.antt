@@ -1,4 +1,4 @@
--- The draw is the cursor's, and so is the next cursor; along a chain both are the chain's.
+-- The draw and the next cursor are those of the given cursor; along a chain both are the chain's.
 use mathlib.Core.Path.{ap, _∙_}
 use Rattle.lister.specs.Calls.{drawCall}
 use Rattle.lister.specs.DrawsListEveryRow.{movedBy}

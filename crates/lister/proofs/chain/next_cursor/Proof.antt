@@ -1,4 +1,4 @@
--- A row's cursor is the row's; any other answer leaves the cursor as it was.
+-- After a row the cursor is that of the row; any other answer leaves the cursor unchanged.
 use mathlib.Core.Path.{sym, ap, _∙_}
 use Rattle.lister.specs.Answers.{answerOf}
 use Rattle.lister.specs.DrawsListEveryRow.{movedBy}

@@ -1,4 +1,4 @@
--- The first line, the edges, the blocks and the last line, one behind the other.
+-- The first line, the edges, the blocks and the last line, one after the other.
 use native.Mathlib.Nat.{zero-add}
 use native.Mathlib.Omega.{arith}
 use mathlib.Core.Path.{_∙_}

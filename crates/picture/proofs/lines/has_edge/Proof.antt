@@ -1,4 +1,4 @@
--- Among the edges from i on one touches the block exactly when one of all does.
+-- One of the edges from i on touches the block exactly if one of all edges does.
 use Prim.Native.Nat.{_≤_, _-_}
 use borrow.Author.Needs.{needs}
 use lib.ListN.{length, drop}

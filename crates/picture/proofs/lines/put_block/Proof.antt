@@ -1,4 +1,4 @@
--- A block that an edge has shown has no line; otherwise two spaces, the node and the line's end, one behind the other.
+-- A block with an edge has no line; otherwise two spaces, the node and the line's end, one after the other.
 use native.Mathlib.Omega.{arith}
 use mathlib.Core.Path.{sym, ap, ap₂, _∙_}
 use lib.ListN.{getD}

@@ -1,7 +1,7 @@
--- Line by line: those of the blocks before block b stand in the sheet.
+-- Line by line: those of the blocks before block b are in the sheet.
 use Prim.Native.Nat.{_+_, _-_, _*_, _≤_}
 use native.Mathlib.Omega.{arith}
-use mathlib.Core.Path.{_≡_, ap, _∙_}
+use mathlib.Core.Path.{_≡_, ap}
 use lib.ListN.{length}
 use borrow.Author.Needs.{needs}
 use Rattle.description.specs.Meaning.{describes}

@@ -1,4 +1,4 @@
--- Two spaces, the nodes and the line's end, one behind the other.
+-- Two spaces, the nodes and the line's end, one after the other.
 use native.Mathlib.Omega.{arith}
 use Rattle.list_text.specs.Lines.{ascii}
 use Rattle.list_text.proofs.Writing.{then-put}

@@ -1,4 +1,4 @@
--- Line by line: those of the edges before edge i stand in the sheet.
+-- Line by line: those of the edges before edge i are in the sheet.
 use Prim.Native.Nat.{_+_, _-_, _*_, _≤_}
 use native.Mathlib.Omega.{arith}
 use mathlib.Core.Path.{_≡_, ap, _∙_}

@@ -1,4 +1,4 @@
--- Node, arrow and node, one behind the other.
+-- Node, arrow and node, one after the other.
 use native.Mathlib.Omega.{arith}
 use mathlib.Core.List.{[], _∷_}
 use Rattle.list_text.proofs.Writing.{then-put}

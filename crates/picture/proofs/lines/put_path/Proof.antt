@@ -1,4 +1,4 @@
--- The nodes by the way of the edge.
+-- The nodes depend on the way of the edge.
 use mathlib.Core.Path.{sym, _∙_}
 use Rattle.picture.specs.Sheets.{pathRoom}
 use Rattle.picture.proofs.Paths.{path-writes, path-reads}

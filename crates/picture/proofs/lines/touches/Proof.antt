@@ -1,4 +1,4 @@
--- Each return by the test that led there.
+-- Each return follows from the test that leads there.
 use borrow.Author.Tests.{eq-eqb, ne-eqb}
 use Rattle.picture.proofs.lines.touches.Statement.{statement}
 use Rattle.picture.proofs.lines.touches.Tie as tie

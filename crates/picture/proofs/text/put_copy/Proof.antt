@@ -1,6 +1,5 @@
--- The number stands behind the mark, and that behind the node.
+-- The number comes after the mark, and the mark after the node.
 use native.Mathlib.Omega.{arith}
-use mathlib.Core.List.{[], _∷_}
 use Rattle.list_text.specs.Lines.{ascii, decimal}
 use Rattle.list_text.proofs.Decimals.{fits-byte}
 use Rattle.list_text.proofs.Writing.{then-put}

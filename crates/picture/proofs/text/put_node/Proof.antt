@@ -1,4 +1,4 @@
--- Each part stands behind the one before it.
+-- Each part comes after the one before it.
 use Prim.Native.Nat.{_+_, _≤_}
 use native.Mathlib.Omega.{arith}
 use borrow.Author.Needs.{needs}
@@ -23,7 +23,7 @@ put-number-requires c κs =
     let n = fits-byte (start .args .block) (start .fits .block .fits) in
     simp length-set (omega arith)
 
--- where the number of the block ends, and that the sheet is as long as it was
+-- where the number of the block ends, and that the sheet kept its length
 behind : (c : tie.After-put-number) → let start = c .before .before .before in
     (c .put-number .result ≤ start .args .at + 4) × (length (c .put-number .last .1 .0) ≡ length (start .args .sheet .now))
 behind c =

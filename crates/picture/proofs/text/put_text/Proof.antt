@@ -1,5 +1,5 @@
--- Byte by byte: what is put so far stands in the sheet.
-use Prim.Native.Nat.{ℕ, _+_, _-_, _≤_}
+-- Byte by byte: what is put so far is in the sheet.
+use Prim.Native.Nat.{_+_, _-_, _≤_}
 use native.Mathlib.Numerals.{add-one}
 use native.Mathlib.Omega.{arith}
 use mathlib.Core.Path.{_≡_, sym, ap, _∙_}

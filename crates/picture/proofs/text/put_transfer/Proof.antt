@@ -1,4 +1,4 @@
--- The number stands behind the letter.
+-- The number comes after the letter.
 use native.Mathlib.Omega.{arith}
 use borrow.Author.Needs.{needs}
 use mathlib.Core.Path.{_∙_}

@@ -1,14 +1,12 @@
 -- The datum's own cloud, and then edge by edge.
-use Prim.Native.Nat.{_+_, _-_, _≤_, _<_}
+use Prim.Native.Nat.{_-_, _≤_, _<_}
 use native.Mathlib.Omega.{arith}
-use mathlib.Core.Path.{_≡_, sym, ap, _∙_}
+use mathlib.Core.Path.{sym, ap, _∙_}
 use mathlib.Core.Logic.{⊎-elim}
 use lib.ListN.{length, getD, replicate}
 use borrow.Author.Needs.{needs}
-use Rattle.description.specs.Declarations.{edge}
 use Rattle.description.specs.Meaning.{describes}
 use Rattle.security.specs.HeldClouds.{marked}
-use Rattle.security.specs.Placements.{serviceCloud}
 use Rattle.security.proofs.HeldClouds.{Held, held-own, held-one, held-other, held-all}
 use Rattle.security.proofs.apart.clouds_holding.Statement.{statement}
 use Rattle.security.proofs.apart.clouds_holding.Tie as tie

@@ -1,5 +1,5 @@
--- The search from pair i on finds what the search from the start finds; a pair's clouds from k on hold both data where any of them does.
--- The loops are left with i at the first broken pair, or past the last.
+-- The search from pair i on finds what the search from the start finds; some cloud from k on holds both data of a pair exactly if any cloud
+-- does. The loops end with i at the first broken pair, or past the last.
 use mathlib.Core.Path.{_≡_, refl, sym, ap, _∙_}
 use mathlib.Core.Logic.{⊎-elim}
 use mathlib.Core.Bool.{true, false}

@@ -1,5 +1,4 @@
--- Each return by the tests that led there.
-use lib.ListN.{getD}
+-- Each return follows from the tests that lead there.
 use borrow.Author.Needs.{needs}
 use borrow.Author.Tests.{eq-eqb, ne-eqb}
 use Rattle.security.proofs.apart.in_both.Statement.{statement}

@@ -1,4 +1,4 @@
--- One of the eight is marked, another is not there.
+-- One of the eight is marked; there is no other.
 use native.Mathlib.Omega.{arith}
 use borrow.Author.Needs.{needs}
 use borrow.Author.Tests.{lt-ltb, le-ltb}

@@ -12,7 +12,7 @@ use Rattle.sequences.proofs.Bits.{bit-is, bit-past}
 use Rattle.security.proofs.masks.alone.Statement.{statement}
 use Rattle.security.proofs.masks.alone.Tie as tie
 
--- what is answered, by the bit
+-- the answer, by the bit
 answered : (clouds c : ℕ) {t : Bool} → bit clouds c ≡ t → cond t (2 ^ c) 0 ≡ cond (bit clouds c) (2 ^ c) 0
 answered clouds c e = sym (ap (λ (b : Bool). cond b (2 ^ c) 0) e)
 

@@ -1,4 +1,4 @@
--- By the pin.
+-- By cases of the pin.
 use mathlib.Core.Path.{sym, ap, _∙_}
 use borrow.Author.Needs.{needs}
 use Rattle.security.specs.Masks.{leftBy}

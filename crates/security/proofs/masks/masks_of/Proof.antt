@@ -1,5 +1,5 @@
--- Block by block: the bytes so far are masks, and past the last block there is 0; the product so far and the product from b on make the
--- whole, and the product so far is at most 8 to the power b.
+-- Block by block: the bytes so far are masks, and past them there is 0; the product so far times the product from b on is the whole, and
+-- the product so far is at most 8 to the power b.
 use Prim.Native.Nat.{ℕ, _+_, _-_, _*_, _^_, _≤_, _<_}
 use native.Mathlib.Nat.{one-mul, mul-one, mul-assoc, mul-le-mul, pow-suc, pow-le-pow-right}
 use native.Mathlib.Numerals.{add-one}
@@ -66,7 +66,7 @@ covering-clouds-requires c κs = search needs
 left-by-requires : tie.Need-left-by-requires Inv-loop μ-loop
 left-by-requires c κs = search needs
 
--- the clouds that cover the block's label: those of the block before, or looked for anew
+-- the clouds that cover the block's label: those of the block before, or looked for again
 known : (c : tie.Joined1 Inv-loop μ-loop)
     → let at = c .before .before .before .before in
     let d = describes (workflow at) in
@@ -84,7 +84,7 @@ known c =
           old .2 ∙ at .loop .inv .4 (omega (arith, same, byte)) ∙ ap (λ (l : ℕ). bits (cloudCovers d l) 0 8) same ∙ own
     ]
 
--- the byte is the mask; its set bits are as many as the block has choices, and no more than eight
+-- the byte is the mask; it has as many set bits as the block has choices, at most eight
 byte : (c : tie.After-left-by Inv-loop μ-loop)
     → let at = c .before .before .before .before .before in
     c .left-by .result ≡ maskOf (describes (workflow at)) (at .loop .b)
@@ -143,7 +143,7 @@ loop-again c =
       held (c .before),
     )
   where
-    -- of the label that is kept
+    -- for the label that is kept
     held : (c : tie.Joined1 Inv-loop μ-loop)
         → let d = describes (workflow (c .before .before .before .before)) in
         c .if1 .label < 256 → c .if1 .covering ≡ bits (cloudCovers d (c .if1 .label)) 0 8

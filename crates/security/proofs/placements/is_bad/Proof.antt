@@ -1,4 +1,4 @@
--- Each return by the tests that led there.
+-- Each return follows from the tests that lead there.
 use native.Mathlib.Omega.{arith}
 use Prim.Native.Nat.{_≤_, _<_}
 use borrow.Author.Needs.{needs}

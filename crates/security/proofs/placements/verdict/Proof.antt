@@ -1,4 +1,4 @@
--- Each return by what the searches before it found.
+-- Each return follows from what the searches before it found.
 use mathlib.Core.Path.{sym, ap, _∙_}
 use Rattle.security.specs.Answers.{judgeAnswer, foundIn}
 use Rattle.security.specs.Placements.{judge}

@@ -1,4 +1,4 @@
--- Each return by the tests that led there.
+-- Each return follows from the tests that lead there.
 use Rattle.security.specs.Soundness.{breaks2}
 use borrow.Author.Needs.{needs}
 use Rattle.security.proofs.soundness.breaks_rule2.Statement.{statement}

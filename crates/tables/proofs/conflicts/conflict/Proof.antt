@@ -1,5 +1,5 @@
--- Whether a pair from i on does is whether one of all does.
-use mathlib.Core.Path.{_≡_, refl, sym, _∙_}
+-- Some pair from i on conflicts exactly if some pair at all does.
+use mathlib.Core.Path.{_≡_, sym, _∙_}
 use native.Mathlib.Omega.{arith}
 use Prim.Native.Nat.{_≤_, _<_, _-_}
 use lib.ListN.{length, drop}
@@ -7,7 +7,7 @@ use borrow.Author.Needs.{needs}
 use Rattle.sequences.specs.Lists.{any}
 use Rattle.sequences.proofs.Loops.{any-hit, any-miss, any-end, told}
 use Rattle.description.specs.Meaning.{describes}
-use Rattle.description.specs.Declarations.{noPair, pair}
+use Rattle.description.specs.Declarations.{noPair}
 use Rattle.security.specs.Conflicts.{conflictBy, conflicts}
 use Rattle.security.proofs.Holding.{conflicts-are}
 use Rattle.description.proofs.Named.{pair-blocks}

@@ -1,4 +1,4 @@
--- Without pairs the table is all zeros; otherwise the list lies behind its length.
+-- Without pairs the table is all zeros; otherwise the list comes after its length.
 use native.Mathlib.Omega.{arith}
 use mathlib.Core.Path.{sym, _∙_}
 use mathlib.Core.List.{[]}

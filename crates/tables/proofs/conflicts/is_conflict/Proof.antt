@@ -1,8 +1,7 @@
--- Each return by the tests that led there.
+-- Each return follows from the tests that lead there.
 use Prim.Native.Nat.{_/_, _%_, _≤_}
 use native.Mathlib.Omega.{arith}
 use mathlib.Core.Path.{sym, _∙_}
-use borrow.Author.Needs.{needs}
 use borrow.Author.Tests.{le-leb, lt-leb}
 use Rattle.tables.proofs.conflicts.is_conflict.Statement.{statement}
 use Rattle.tables.proofs.conflicts.is_conflict.Tie as tie

@@ -1,4 +1,4 @@
--- Those of the first numbers stand in front, and there is room for each.
+-- The conflicts among the first numbers are at the front, and there is room for each.
 use Prim.Native.Nat.{ℕ, _+_, _*_, _-_, _≤_, _<_}
 use native.Mathlib.Omega.{arith}
 use mathlib.Core.Path.{_≡_, sym, ap, subst, _∙_}
@@ -22,7 +22,7 @@ Inv-loop w served a₀ last m₀ both₀ a m both = (both ≤ last) × Listed 13
 abbrev μ-loop : tie.MeasureT-loop
 μ-loop w served a₀ last m₀ both₀ a m both = last - both
 
--- of one more that conflicts there are still no more than there is room for
+-- with one more conflict there are still no more than there is room for
 room : (d : Description) (n : ℕ) → n < 256 → isConflict d n ≡ true → length (conflictsTo d n) < 136
 room d n h t = omega (
   arith,

@@ -4,7 +4,6 @@ use native.Mathlib.Omega.{arith}
 use mathlib.Core.Path.{ap, ap₂, _∙_}
 use lib.ListN.{length}
 use borrow.Author.Needs.{needs}
-use Rattle.description.specs.Declarations.{edge}
 use Rattle.description.specs.Meaning.{describes}
 use Rattle.description.proofs.Named.{service-block, datum-block}
 use Rattle.tables.proofs.Serving.{Served, served-lent, served-one, served-all}
@@ -29,7 +28,7 @@ edge-at-requires c κs = search needs
 wide-requires : tie.Need-wide-requires Inv-loop μ-loop
 wide-requires c κs = search needs
 
--- the edge at hand names blocks, of which there are sixteen at most
+-- the current edge names blocks, of which there are at most sixteen
 small : (c : tie.After-edge-at Inv-loop μ-loop) → (c .edge-at .result .datum < 16) × (c .edge-at .result .service < 16)
 small c =
     let at = c .before .before in

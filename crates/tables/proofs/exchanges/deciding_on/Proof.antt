@@ -1,4 +1,4 @@
--- By whether storage decides.
+-- By cases: whether storage decides.
 use Prim.Native.Nat.{_≤_, _*_}
 use native.Mathlib.Nat.{mul-le-mul}
 use native.Mathlib.Omega.{arith}

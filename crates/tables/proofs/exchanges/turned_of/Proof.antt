@@ -1,4 +1,4 @@
--- By whether the datum is kept.
+-- By cases: whether the datum is kept.
 use Prim.Native.Nat.{ℕ, zero, suc}
 use mathlib.Core.Path.{_≡_, refl, sym, ap, _∙_}
 use native.Mathlib.Omega.{arith}

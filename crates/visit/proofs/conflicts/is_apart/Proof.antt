@@ -1,4 +1,4 @@
--- The conflicts from `i` on hold a clash exactly when all of them do.
+-- The conflicts from `i` on have a clash exactly if all conflicts do.
 use Prim.Native.Nat.{ℕ, _-_, _≤_}
 use native.Mathlib.Omega.{arith}
 use mathlib.Core.Path.{_≡_, refl, sym, ap, _∙_}

@@ -1,4 +1,4 @@
--- By its tests, one of the cases of where a datum can move to.
+-- The tests lead to one of the cases of where a datum can move.
 use Prim.Native.Nat.{ℕ, _+_, _*_, _<_}
 use native.Mathlib.Omega.{arith}
 use mathlib.Core.Path.{_≡_, sym, _∙_}

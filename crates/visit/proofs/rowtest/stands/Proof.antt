@@ -1,4 +1,4 @@
--- The blocks from `m` on hold one that is better at its other end exactly when all of them do.
+-- The blocks from `m` on have one that is better at its other end exactly if all blocks do.
 use Prim.Native.Nat.{ℕ, _-_, _≤_}
 use native.Mathlib.Omega.{arith}
 use mathlib.Core.Path.{_≡_, refl, sym, ap, _∙_}

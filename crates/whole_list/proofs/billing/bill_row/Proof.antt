@@ -1,4 +1,4 @@
--- The key is read and cleared, and its row stored with the bill of the placement that it packs.
+-- The key is read and cleared, and its row is stored with the bill of the placement that it packs.
 use Prim.Native.Nat.{ℕ, _+_, _-_, _*_}
 use native.Mathlib.Numerals.{add-one}
 use native.Mathlib.Omega.{arith}

@@ -1,4 +1,4 @@
--- Row by row: the keys before the next one are cleared, and their rows stand with their bills.
+-- Row by row: the keys before the next one are cleared, and their rows are stored with their bills.
 use Prim.Native.Nat.{ℕ, _+_, _-_, _*_, _≤_}
 use native.Mathlib.Nat.{add-zero}
 use native.Mathlib.Omega.{arith}
@@ -47,7 +47,7 @@ rows-size c =
     let a = c .before .before .before .before .before .before .before .before .args in
     ap length (c .loop .inv .2) ∙ rows-length (describes (a .w .now)) (a .keys .now) (c .loop .i) (omega arith) (a .rows .now) (omega arith)
 
--- the next key is still as it was lent
+-- the next key is still unchanged
 own : (c : tie.In-loop Inv-loop μ-loop) → let l = c .before .loop in
     let keys = c .before .before .before .before .before .before .before .before .before .args .keys .now in
     (getD (l .keys) (l .i * 2) 0 ≡ getD keys (l .i * 2) 0) × (getD (l .keys) (l .i * 2 + 1) 0 ≡ getD keys (l .i * 2 + 1) 0)

@@ -1,4 +1,4 @@
--- Five stores, one behind the other.
+-- Five stores in a row.
 use native.Mathlib.Numerals.{add-one, add-two, add-three, add-four}
 use native.Mathlib.Omega.{arith}
 use lib.ListN.{length-set}
