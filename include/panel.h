@@ -79,7 +79,7 @@ enum panel_refusal {
     PANEL_NOT_DECLARED = 6,     /* it names what is not there, or what is of the wrong kind (offset of the command) */
     PANEL_REPEATED = 7,         /* the edge or pair is there already; the datum has a writer, the block a pin; a datum is paired with
                                    itself (offset of the command) */
-    PANEL_EMPTY = 8,            /* no cloud, or no block (the length) */
+    PANEL_NOTHING_DECLARED = 8, /* no cloud, or no block (the length) */
 
     /* The workflow. */
     PANEL_LOCATION_NOT_CLEARED = 9, /* rule 2: a service's clearance does not cover its location (block) */
@@ -89,22 +89,22 @@ enum panel_refusal {
 
     /* A placement: panel_judge, panel_bill, panel_transfers, panel_picture, panel_picture_size. A pair is two data that command 07 keeps
        apart; pairs are numbered from 0, and the copies that transfers make count. */
-    PANEL_NO_CANDIDATE = 13, /* a position has a cloud that it may not have; panel_standing says why (position) */
-    PANEL_READ_COPY = 14,    /* rule 16: a read copies a datum to a cloud that does not cover it (edge) */
-    PANEL_WRITE_COPY = 15,   /* rule 17: a write leaves a copy of a datum on such a cloud (edge) */
-    PANEL_PAIR_MEETS = 17,   /* a cloud holds both data of a pair (pair) */
+    PANEL_NO_CANDIDATE = 13,  /* a position has a cloud that it may not have; panel_standing says why (position) */
+    PANEL_READ_EXPOSES = 14,  /* rule 16: a read copies a datum to a cloud that does not cover it (edge) */
+    PANEL_WRITE_EXPOSES = 15, /* rule 17: a write leaves a copy of a datum on such a cloud (edge) */
+    PANEL_PAIR_MEETS = 17,    /* a cloud holds both data of a pair (pair) */
 
     /* Lent memory: panel_transfers, panel_picture, panel_list. */
     PANEL_SHORT_BUFFER = 16 /* too little room (bytes, or words of rows, that are needed) */
 };
 
-/* Why a position may not have a cloud, as panel_standing answers it. */
+/* Whether a position may have a cloud, and if not, why: what panel_standing answers. */
 enum panel_reason {
-    PANEL_MAY_STAND = 0,
-    PANEL_NO_SUCH_CLOUD = 1,    /* no cloud of this number is declared */
-    PANEL_LABEL_UNCOVERED = 2,  /* rule 7: the cloud's label does not cover the block's */
-    PANEL_PINNED_ELSEWHERE = 3, /* the block is pinned to another cloud */
-    PANEL_NO_BLOCK = 4          /* there is no block at this position, and the byte is not 0 */
+    PANEL_ALLOWED = 0,       /* it may: the block may stand there, or there is no block and the byte is 0 */
+    PANEL_NO_SUCH_CLOUD = 1, /* no cloud of this number is declared */
+    PANEL_NOT_COVERED = 2,   /* rule 7: the cloud's label does not cover the block's */
+    PANEL_NOT_PERMITTED = 3, /* the block is pinned to another cloud */
+    PANEL_NO_BLOCK = 4       /* there is no block at this position, and the byte is not 0 */
 };
 
 #ifdef __GNUC__

@@ -90,7 +90,7 @@ static void check_words(void)
     CHECK(strncmp(panel_message(PANEL_PAIR_MEETS), "some cloud holds both data of a pair", 36) == 0);
     CHECK(strcmp(panel_message(18), "no such number is known") == 0);
     CHECK(strcmp(panel_message(255), "no such number is known") == 0);
-    CHECK(strcmp(panel_reason_message(PANEL_PINNED_ELSEWHERE),
+    CHECK(strcmp(panel_reason_message(PANEL_NOT_PERMITTED),
                  "the block is pinned to another cloud; choose that one, or remove the pin") == 0);
     CHECK(strcmp(panel_reason_message(5), "no such reason is known") == 0);
     CHECK(strcmp(panel_reason_message(UINT64_MAX), "no such reason is known") == 0);
