@@ -75,6 +75,20 @@ static void check(bool holds, const char *condition, int line)
     }
 }
 
+static void check_names(void)
+{
+    const unsigned refusals[] = {
+        PANEL_CUT_SHORT, PANEL_UNKNOWN_COMMAND, PANEL_AFTER_END, PANEL_TOO_MANY, PANEL_LABEL_TOO_HIGH, PANEL_NOT_DECLARED, PANEL_REPEATED,
+        PANEL_NOTHING_DECLARED, PANEL_LOCATION_NOT_CLEARED, PANEL_READ_UP, PANEL_WRITE_DOWN, PANEL_TOO_MANY_CANDIDATES,
+        PANEL_NO_CANDIDATE, PANEL_READ_EXPOSES, PANEL_WRITE_EXPOSES, PANEL_SHORT_BUFFER, PANEL_PAIR_MEETS,
+    };
+    const unsigned reasons[] = {PANEL_ALLOWED, PANEL_NO_SUCH_CLOUD, PANEL_NOT_COVERED, PANEL_NOT_PERMITTED, PANEL_NO_BLOCK};
+    for (unsigned at = 0; at < 17; at++)
+        CHECK(refusals[at] == at + 1);
+    for (unsigned at = 0; at < 5; at++)
+        CHECK(reasons[at] == at);
+}
+
 static void check_words(void)
 {
     for (unsigned number = 0; number <= 17; number++)
@@ -154,6 +168,7 @@ int main(void)
 {
     uint8_t byte = 0;
     uint64_t word = 0;
+    check_names();
     check_words();
     check_status();
     check_row(07, 1, "7000000000000000");
