@@ -6,13 +6,15 @@
  */
 #include <algorithm>
 #include <array>
+#include <cstddef>
 #include <cstdint>
 #include <exception>
+#include <functional>
+#include <future>
 #include <iostream>
 #include <optional>
 #include <stdexcept>
 #include <string>
-#include <thread>
 #include <vector>
 
 #include "panel.h"
@@ -29,9 +31,14 @@ struct Row {
     Amounts amounts{};
 };
 
-// What stands on a cloud of the lower level may be seen by its owner; the open face needs the higher one.
+// The witness's open face needs the higher level, and the rented store has the lower one.
 constexpr unsigned rented_level = 0;
 constexpr unsigned own_level = 1;
+
+constexpr std::size_t transfer_bytes = 4; // edge, datum, cloud that it leaves, cloud that it enters
+constexpr std::size_t chosen_row = 2;
+constexpr std::size_t drawn_rows = 2;
+constexpr std::size_t threads = 4;
 
 // The number that the library knows a name by: its place in the order of declaration.
 std::size_t number_of(const Names &names, const std::string &name)
@@ -51,35 +58,35 @@ public:
 
     void cloud(const std::string &name, unsigned label, const Rates &rates)
     {
-        put(1, 1).put(1, label).put(2, rates.storage).put(2, rates.in).put(2, rates.out).put(2, rates.cpu);
+        put(1, cloud_command).put(1, label).put(2, rates.storage).put(2, rates.in).put(2, rates.out).put(2, rates.cpu);
         clouds_.push_back(name);
     }
 
     void datum(const std::string &name, unsigned label, unsigned tenths_of_gigabytes, unsigned months)
     {
-        put(1, 2).put(1, label).put(2, tenths_of_gigabytes).put(2, months);
+        put(1, datum_command).put(1, label).put(2, tenths_of_gigabytes).put(2, months);
         blocks_.push_back(name);
     }
 
     void service(const std::string &name, unsigned location, unsigned clearance, unsigned cpu_units)
     {
-        put(1, 3).put(1, location).put(1, clearance).put(4, cpu_units);
+        put(1, service_command).put(1, location).put(1, clearance).put(4, cpu_units);
         blocks_.push_back(name);
     }
 
-    void reads(const std::string &service, const std::string &datum) { relate(4, service, datum); }
-    void writes(const std::string &service, const std::string &datum) { relate(5, service, datum); }
-    void pair(const std::string &datum, const std::string &other) { relate(7, datum, other); }
+    void reads(const std::string &service, const std::string &datum) { relate(reads_command, service, datum); }
+    void writes(const std::string &service, const std::string &datum) { relate(writes_command, service, datum); }
+    void pair(const std::string &datum, const std::string &other) { relate(pair_command, datum, other); }
     void pin(const std::string &block, const std::string &cloud)
     {
-        put(1, 6).put(1, number_of(blocks_, block)).put(1, number_of(clouds_, cloud));
+        put(1, pin_command).put(1, number_of(blocks_, block)).put(1, number_of(clouds_, cloud));
     }
 
     // The description so far, with the command that ends it.
     Bytes bytes() const
     {
         Bytes ended = bytes_;
-        ended.push_back(0);
+        ended.push_back(end_command);
         return ended;
     }
 
@@ -87,6 +94,17 @@ public:
     const Names &blocks() const { return blocks_; }
 
 private:
+    enum Command : unsigned {
+        end_command,
+        cloud_command,
+        datum_command,
+        service_command,
+        reads_command,
+        writes_command,
+        pin_command,
+        pair_command
+    };
+
     // A number of so many bytes, the most significant first.
     Builder &put(unsigned width, std::uint64_t value)
     {
@@ -97,7 +115,7 @@ private:
         return *this;
     }
 
-    void relate(unsigned command, const std::string &first, const std::string &second)
+    void relate(Command command, const std::string &first, const std::string &second)
     {
         put(1, command).put(1, number_of(blocks_, first)).put(1, number_of(blocks_, second));
     }
@@ -120,7 +138,8 @@ void require_answer(std::uint64_t status)
         throw std::runtime_error(in_words(status));
 }
 
-// All rows, for a table: one call, and one walk over the candidates. The first call has no room, to ask how much is needed.
+// All rows, for a table. The first call has no room: it asks how much is needed. Each call walks over the candidates once, so this is two
+// walks for any number of rows; with PANEL_LIST words, which hold any list, the first call would do.
 std::vector<Row> list_of(const Bytes &description)
 {
     std::vector<std::uint64_t> words, scratch;
@@ -132,7 +151,7 @@ std::vector<Row> list_of(const Bytes &description)
     std::uint64_t status = list();
     if (PANEL_NUMBER(status) == PANEL_SHORT_BUFFER) {
         words.resize(PANEL_PLACE(status));
-        scratch.resize(words.size() / 5 * 2);
+        scratch.resize(words.size() / PANEL_ROW * 2);
         status = list();
     }
     require_answer(status);
@@ -255,7 +274,7 @@ void print_chosen(const Builder &film, const Bytes &description, const Row &row)
     print_row(row, film.blocks().size());
     for (std::size_t block = 0; block < film.blocks().size(); block++)
         std::cout << "  " << film.blocks()[block] << ": " << film.clouds()[row.placement[block]] << "\n";
-    for (std::size_t at = 0; at < 4 * count; at += 4)
+    for (std::size_t at = 0; at < transfer_bytes * count; at += transfer_bytes)
         std::cout << "  to move: " << film.blocks()[transfers[at + 1]] << ", from " << film.clouds()[transfers[at + 2]] << " to "
                   << film.clouds()[transfers[at + 3]] << "\n";
 }
@@ -341,15 +360,15 @@ void print_refusals(const Builder &film)
 
 void print_draws(const Bytes &description, std::size_t blocks)
 {
-    constexpr int shown = 2;
     std::cout << "\nThe first rows alone, one draw each\n";
     Draws draws(description);
-    for (int row = 0; row < shown; row++) {
+    for (std::size_t row = 0; row < drawn_rows; row++) {
         if (const std::optional<Row> drawn = draws.next())
             print_row(*drawn, blocks);
     }
 }
 
+// How many draws, from the start, answer the rows of the list.
 std::size_t rows_as_listed(const Bytes &description, const std::vector<Row> &listed)
 {
     Draws draws(description);
@@ -365,15 +384,12 @@ std::size_t rows_as_listed(const Bytes &description, const std::vector<Row> &lis
 // Threads need no lock: they read one description, and each has memory of its own for the answers.
 void print_threads(const Bytes &description, const std::vector<Row> &listed)
 {
-    std::array<std::size_t, 4> same{};
-    std::vector<std::thread> threads;
-    for (std::size_t &count : same)
-        threads.emplace_back([&] { count = rows_as_listed(description, listed); });
-    for (std::thread &thread : threads)
-        thread.join();
-    std::cout << "\nDrawn by " << threads.size() << " threads at once\n";
-    for (const std::size_t count : same)
-        std::cout << "  " << count << " of " << listed.size() << " rows as listed\n";
+    std::vector<std::future<std::size_t>> running;
+    for (std::size_t thread = 0; thread < threads; thread++)
+        running.push_back(std::async(std::launch::async, rows_as_listed, std::cref(description), std::cref(listed)));
+    std::cout << "\nDrawn by " << threads << " threads at once\n";
+    for (std::future<std::size_t> &same : running)
+        std::cout << "  " << same.get() << " of " << listed.size() << " rows as listed\n";
 }
 
 void show_panel()
@@ -385,7 +401,7 @@ void show_panel()
     print_choices(film, description);
     const std::vector<Row> rows = list_of(description);
     print_list(rows, blocks);
-    const Row &chosen = rows.at(2);
+    const Row &chosen = rows.at(chosen_row);
     print_chosen(film, description, chosen);
     print_picture(description, chosen.placement);
     print_drags(film, chosen.placement);
