@@ -138,8 +138,8 @@ void require_answer(std::uint64_t status)
         throw std::runtime_error(in_words(status));
 }
 
-// All rows, for a table. The first call has no room: it asks how much is needed. Each call walks over the candidates once, so this is two
-// walks for any number of rows; with PANEL_LIST words, which hold any list, the first call would do.
+// All rows, for a table. The first call has no room: it asks how much is needed. That is a walk more over the candidates, and saves memory;
+// with PANEL_LIST and PANEL_SCRATCH words, which are enough for any description, one call would do.
 std::vector<Row> list_of(const Bytes &description)
 {
     std::vector<std::uint64_t> words, scratch;

@@ -23,8 +23,9 @@
  * hand over a null pointer, not even with length 0. Every other pointer must not be null: no call tests it, but compilers can warn.
  *
  * Time. panel_census, panel_draw and panel_list walk over all candidates, up to 65,536, each time they are called. The other eight look at
- * the description and at one placement, and do not walk. So a table of all rows wants one panel_list, which walks once. A draw walks for
- * each row: it is for a panel that shows the first few rows, and for a program that has no memory for the whole list.
+ * the description and at one placement at most, and do not walk. So a table of all rows wants panel_list: one walk with PANEL_LIST words of
+ * rows and PANEL_SCRATCH of scratch, and a second one, to count the rows first, if there is less room than for all candidates. Draws walk
+ * once for each row: they are for a panel that shows the first few rows, and for a program that has no memory for the whole list.
  *
  * Threads. Nothing is kept between calls and there are no global variables: any number of threads may call at once, as long as none
  * writes what another is lent. No call allocates, and each ends. PANEL_STACK bytes of stack are enough for any call: this was measured and
@@ -196,8 +197,8 @@ uint64_t panel_draw(const uint8_t *description, size_t length, bool start, uint6
                     uint64_t answer[5], uint8_t row[16]) PANEL_NONNULL;
 
 /*
- * List: all rows at once, the cheapest first. Walks over all candidates once. Refuses with 1 to 12, and with 16 if rows is shorter than
- * five words a row or scratch than two; the place is the words that rows needs, and scratch needs two fifths of them.
+ * List: all rows at once, the cheapest first. Walks over all candidates, once or twice. Refuses with 1 to 12, and with 16 if rows is
+ * shorter than five words a row or scratch than two; the place is the words that rows needs, and scratch needs two fifths of them.
  * rows: PANEL_ROW words for each row at the front, which panel_unpack_row takes apart: its cost; the clouds of its blocks as digits to the
  *       base 8, the first block's the highest; its storage, transfer and cpu. The words after them stay. room is its length in words.
  * scratch: room to sort with, two words for each row; that much is zeros afterwards, and the words after it stay. scratch_room is its
