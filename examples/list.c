@@ -13,13 +13,15 @@
 static uint8_t description[4096];
 static uint64_t rows[PANEL_LIST], scratch[PANEL_SCRATCH];
 
-/* The words of a row are its cost, its clouds as digits to the base 8, and its storage, transfer and cpu. */
 static void print_row(const uint64_t row[PANEL_ROW], uint64_t blocks)
 {
-    printf("%" PRIu64 " ", row[0]);
-    for (uint64_t block = blocks; block > 0; block--)
-        putchar('0' + (int)(row[1] >> (3 * (block - 1)) & 7));
-    printf(" %" PRIu64 " %" PRIu64 " %" PRIu64 "\n", row[2], row[3], row[4]);
+    uint8_t placement[PANEL_BLOCKS];
+    uint64_t amounts[PANEL_AMOUNTS];
+    panel_unpack_row(row, blocks, placement, amounts);
+    printf("%" PRIu64 " ", amounts[0]);
+    for (uint64_t block = 0; block < blocks; block++)
+        putchar('0' + placement[block]);
+    printf(" %" PRIu64 " %" PRIu64 " %" PRIu64 "\n", amounts[1], amounts[2], amounts[3]);
 }
 
 static void print_refusal(uint64_t status)
@@ -51,7 +53,7 @@ static void print_picture(size_t length, const uint8_t placement[PANEL_BLOCKS])
         fwrite(picture, 1, count[0], stdout);
 }
 
-/* A line for each block: its number, and for each cloud its digit, or a dot where the panel would grey it out. */
+/* A line for each block: its number, and for each cloud its digit, or a dot if the panel would grey it out. */
 static void print_choices(size_t length)
 {
     uint64_t counts[3];
