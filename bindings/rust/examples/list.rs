@@ -50,7 +50,7 @@ fn list(description: &Description) -> String {
     format!("{lines}options {}\n", rows.len())
 }
 
-/// A line for each block: its number, and for each cloud its digit, or a dot where the panel would
+/// A line for each block: its number, and for each cloud its digit, or a dot if the panel would
 /// grey it out.
 fn choices(description: &Description) -> String {
     let digits = "01234567".chars().take(description.clouds()).enumerate();
