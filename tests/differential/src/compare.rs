@@ -17,7 +17,7 @@ use crate::mask;
 use crate::operands::{cursor, placement, position_and_cloud, room, rooms};
 use crate::picture::{kind_of, room_seen, seen_in};
 use crate::standing;
-use crate::tally::{Call, TURNED, TURNED_AT_EQUAL_COST, Tally};
+use crate::tally::{Call, NO_ROW, TURNED, TURNED_AT_EQUAL_COST, Tally};
 use crate::text::has_half;
 use crate::wrapped;
 
@@ -327,11 +327,10 @@ impl<'a> Input<'a> {
     fn bill(&mut self) -> Agreed {
         let placement = self.placement();
         let mut amounts = Lent::<u64>::new(self.random, 4);
-        let rows = &self.rows;
+        let listed = self.listed(&placement);
         let reference = self.described().and_then(|described| {
             amounts.expect(&described.bill(&placement)?);
-            let is_row = rows.iter().any(|row| row.placement == placement);
-            Ok(if is_row { "a row" } else { "another" })
+            Ok(listed)
         });
         let case = Case {
             call: Call::Bill,
@@ -340,6 +339,16 @@ impl<'a> Input<'a> {
             reference,
         };
         self.settle(&case, &[&amounts])
+    }
+
+    /// What the bill of a secure placement is counted as: of a row, of none, or of a description
+    /// whose rows were not listed.
+    fn listed(&self, placement: &Placement) -> &'static str {
+        match self.rows.as_slice() {
+            [] => "rows unknown",
+            rows if rows.iter().any(|row| row.placement == *placement) => "a row",
+            _ => NO_ROW,
+        }
     }
 
     fn standing(&mut self) -> Agreed {

@@ -56,6 +56,9 @@ impl Call {
 pub const TURNED: &str = "rows turned by copies";
 pub const TURNED_AT_EQUAL_COST: &str = "rows turned by copies at equal cost";
 
+/// What Bill answers for a placement that is no row; some must be seen.
+pub const NO_ROW: &str = "no row";
+
 #[derive(Default)]
 pub struct Tally {
     kinds: BTreeMap<Kind, u64>,
@@ -101,8 +104,9 @@ impl Tally {
         self.refusals.get(&(call, number)).copied().unwrap_or(0)
     }
 
-    /// What should have been seen and was not: refusals, the answers of Standing, rows that the
-    /// price of copies decides, refusals and options that a mark decides.
+    /// What should have been seen and was not: refusals, the answers of Standing, bills of
+    /// placements that are no rows, rows that the price of copies decides, refusals and options
+    /// that a mark decides.
     pub fn missing(&self) -> Vec<String> {
         let due = Call::ALL
             .into_iter()
@@ -110,17 +114,19 @@ impl Tally {
         let refusals = due
             .filter(|&(call, number)| self.refusals_of(call, number) == 0)
             .map(|(call, number)| format!("{call:?} {number}"));
-        let standings = STANDINGS
+        let answers = STANDINGS
+            .map(|name| (Call::Standing, name))
             .into_iter()
-            .filter(|name| !self.answers.contains_key(&(Call::Standing, *name)))
-            .map(|name| format!("Standing {name}"));
+            .chain([(Call::Bill, NO_ROW)])
+            .filter(|answer| !self.answers.contains_key(answer))
+            .map(|(call, name)| format!("{call:?} {name}"));
         let for_a_mark = FOR_A_MARK.into_iter().map(|(_, name)| name);
         let traits = [TURNED, TURNED_AT_EQUAL_COST, TAKEN, NEEDING]
             .into_iter()
             .chain(for_a_mark)
             .filter(|name| self.traits.get(name).is_none_or(|&times| times == 0))
             .map(str::to_string);
-        refusals.chain(standings).chain(traits).collect()
+        refusals.chain(answers).chain(traits).collect()
     }
 
     pub fn print(&self, seed: u64, taken: Duration) {
