@@ -100,3 +100,8 @@ pub use reason::Reason;
 pub use refusal::Refusal;
 pub use standing::{Misplaced, Standing};
 pub use values::{Bill, Census, Cursor, NoPlacement, Placement, Row, Transfer};
+
+/// The program of the README compiles.
+#[cfg(doctest)]
+#[doc = include_str!("../README.md")]
+struct Readme;
