@@ -48,9 +48,9 @@ test "$(printf '\000' | "$list" -c)" = 'refused 8 1'
 tests/pictures.sh "$list"
 
 # The program that builds the interview by names has its options with its names; the costs are those of the stored list.
-build=target/rust/debug/examples/build
-"$build" | cmp - bindings/rust/examples/build.expected
-"$build" | sed '/^refused/d; s/ .*//' >target/rust/costs
+by_names=target/rust/debug/examples/build
+"$by_names" | cmp - bindings/rust/examples/build.expected
+"$by_names" | sed '/^refused/d; s/ .*//' >target/rust/costs
 sed '/^options/d; s/ .*//' examples/interview.expected | cmp - target/rust/costs
 
 # Rust and C have the same sentences, for the seventeen refusals and for the five answers of Standing.
