@@ -22,15 +22,11 @@ enum Asked {
 /// A placement from the digits of its first blocks; the others get cloud 0. Only digits that a row
 /// can show are taken: 8 and 9 are not, since no description has nine clouds.
 fn read_placement(digits: &[u8]) -> Option<Placement> {
-    let mut placement = Placement::default();
-    let clouds = placement.0.get_mut(..digits.len())?;
     if digits.is_empty() || !digits.iter().all(|digit| (b'0'..=b'7').contains(digit)) {
         return None;
     }
-    for (cloud, digit) in clouds.iter_mut().zip(digits) {
-        *cloud = digit - b'0';
-    }
-    Some(placement)
+    let clouds: Vec<u8> = digits.iter().map(|digit| digit - b'0').collect();
+    Placement::try_from(&clouds[..]).ok()
 }
 
 fn asked() -> io::Result<Asked> {
@@ -50,7 +46,7 @@ fn list(description: &Description) -> String {
     format!("{lines}options {}\n", rows.len())
 }
 
-/// A line for each block: its number, and for each cloud its digit, or a dot where the panel would
+/// A line for each block: its number, and for each cloud its digit, or a dot if the panel would
 /// grey it out.
 fn choices(description: &Description) -> String {
     let digits = "01234567".chars().take(description.clouds()).enumerate();

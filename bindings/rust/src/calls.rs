@@ -1,4 +1,4 @@
-//! The nine calls on bytes and lent memory, as the library has them.
+//! The eleven calls on bytes and lent memory, as the library has them.
 //!
 //! [`Description`](crate::Description) is more convenient. These functions are for callers who keep
 //! the memory themselves: none allocates, and none keeps anything. Each one starts with what
@@ -47,7 +47,7 @@ pub fn read(description: &[u8], counts: &mut [u64; 3]) -> Result<(), Refusal> {
 }
 
 /// Says in `masks` which clouds each block may use, by rule 7 and its pin: bit k of byte b is set
-/// exactly where block b may stand on cloud k. The byte of a block that may stand nowhere is 0, and
+/// exactly if block b may stand on cloud k. The byte of a block that may stand nowhere is 0, and
 /// so are those past the last block.
 ///
 /// ```
@@ -80,7 +80,7 @@ pub fn judge(description: &[u8], placement: &Placement) -> Result<(), Refusal> {
 }
 
 /// Puts the transfers of a secure placement at the front of the buffer, four bytes each: edge,
-/// datum, the cloud it leaves, the cloud it enters. `count` is their number. What lies behind them
+/// datum, the cloud it leaves, the cloud it enters. `count` is their number. What comes after them
 /// in the buffer is as before. 128 bytes are always enough.
 ///
 /// ```
@@ -93,7 +93,7 @@ pub fn judge(description: &[u8], placement: &Placement) -> Result<(), Refusal> {
 ///
 /// # Errors
 ///
-/// Refuses with 1 to 15, with 17, and with 16 and the bytes needed where the buffer is shorter than
+/// Refuses with 1 to 15, with 17, and with 16 and the bytes needed if the buffer is shorter than
 /// that.
 pub fn transfers(
     description: &[u8],
@@ -105,7 +105,7 @@ pub fn transfers(
 }
 
 /// Puts the picture of a secure placement, a text in ASCII for Graphviz, at the front of the
-/// buffer. `count` is its length in bytes. What lies behind it in the buffer is as before.
+/// buffer. `count` is its length in bytes. What comes after it in the buffer is as before.
 /// [`PICTURE`] bytes are always enough.
 ///
 /// ```
@@ -120,7 +120,7 @@ pub fn transfers(
 ///
 /// # Errors
 ///
-/// Refuses with 1 to 15, with 17, and with 16 and the bytes needed where the buffer is shorter than
+/// Refuses with 1 to 15, with 17, and with 16 and the bytes needed if the buffer is shorter than
 /// that.
 pub fn picture(
     description: &[u8],
@@ -152,6 +152,54 @@ pub fn picture_size(
     answered(ffi::picture_size(description, &placement.0, count))
 }
 
+/// Says in `amounts` what a secure placement costs, and what of that is for storage, for transfers
+/// and for cpu. The last three add up to the first.
+///
+/// ```
+/// let interview = include_bytes!("../../../examples/interview.bin");
+/// let mut amounts = [0; 4];
+/// panel::calls::bill(interview, &[1, 1, 1, 0, 0].into(), &mut amounts)?;
+/// assert_eq!(amounts, [2970, 1370, 100, 1500]);
+/// # Ok::<(), panel::Refusal>(())
+/// ```
+///
+/// # Errors
+///
+/// Refuses with 1 to 15, and with 17.
+pub fn bill(
+    description: &[u8],
+    placement: &Placement,
+    amounts: &mut [u64; 4],
+) -> Result<(), Refusal> {
+    answered(ffi::bill(description, &placement.0, amounts))
+}
+
+/// Says in `reason` whether a position of a placement may have a cloud, and if not, which of the
+/// tests that lead to number 13 fails first: 0 if it may, or a number from 1 to 4 that
+/// [`Standing`](crate::Standing) has names for. Every position and every cloud can be asked about.
+///
+/// ```
+/// let interview = include_bytes!("../../../examples/interview.bin");
+/// let mut reason = 9;
+/// panel::calls::standing(interview, 0, 1, &mut reason)?;
+/// assert_eq!(reason, 0);
+/// panel::calls::standing(interview, 0, 0, &mut reason)?;
+/// assert_eq!(reason, 2);
+/// # Ok::<(), panel::Refusal>(())
+/// ```
+///
+/// # Errors
+///
+/// Refuses with 1 to 12.
+pub fn standing(
+    description: &[u8],
+    position: usize,
+    cloud: u8,
+    reason: &mut u64,
+) -> Result<(), Refusal> {
+    answered(ffi::standing(description, position, cloud, reason))
+}
+
 /// Counts the candidates, those that break rule 16, those that break rule 17 and not 16, those that
 /// break neither but a pair, the secure ones, and the options.
 ///
@@ -170,7 +218,7 @@ pub fn census(description: &[u8], figures: &mut [u64; 6]) -> Result<(), Refusal>
 }
 
 /// Draws the first row past a cursor. `answer` is 1 and the row's cost, storage, transfer and cpu,
-/// with its clouds in `row`; or zeros, in `row` too, where no row is left.
+/// with its clouds in `row`; or zeros, in `row` too, if no row is left.
 ///
 /// ```
 /// use panel::Cursor;
@@ -217,8 +265,8 @@ pub fn draw(
 ///
 /// # Errors
 ///
-/// Refuses with 1 to 12, and with 16 and the words of rows that are needed where there are fewer,
-/// or where the scratch has less than two fifths of that.
+/// Refuses with 1 to 12, and with 16 and the words of rows that are needed if there are fewer, or
+/// if the scratch has less than two fifths of that.
 pub fn list(
     description: &[u8],
     rows: &mut [u64],

@@ -2,7 +2,9 @@
 
 use std::iter::FusedIterator;
 
-use crate::{Census, Cursor, Placement, Refusal, Row, Transfer, calls};
+use crate::calls;
+use crate::parts::Parts;
+use crate::{Bill, Census, Cursor, Misplaced, Placement, Reason, Refusal, Row, Standing, Transfer};
 
 /// Bytes that always hold the transfers: four for each of 32 edges.
 const TRANSFERS: usize = 128;
@@ -12,6 +14,8 @@ const CANDIDATES: usize = 65_536;
 
 /// A description that was accepted: a workflow, the clouds it could run on, its pins, and the pairs
 /// of data that it keeps apart.
+///
+/// It has its bytes and nothing else: threads may share one, or have a clone each.
 #[derive(Debug, Clone, PartialEq, Eq, Hash)]
 pub struct Description {
     bytes: Box<[u8]>,
@@ -72,12 +76,29 @@ impl Description {
         self.edges
     }
 
+    /// What it declares, in the order of its commands: to show it, or to change it with a
+    /// [`Builder`](crate::builder::Builder).
+    ///
+    /// ```
+    /// use panel::Description;
+    ///
+    /// let interview = Description::read(include_bytes!("../../../examples/interview.bin"))?;
+    /// let parts = interview.parts();
+    /// assert_eq!(parts.clouds().map(|cloud| cloud.label).collect::<Vec<_>>(), [0, 1]);
+    /// assert_eq!((parts.blocks().count(), parts.edges().count()), (5, 4));
+    /// # Ok::<(), panel::Refusal>(())
+    /// ```
+    #[must_use]
+    pub fn parts(&self) -> Parts {
+        Parts::of_accepted(&self.bytes)
+    }
+
     /// Which clouds each block may use by itself, by rule 7 and its pin: bit k of byte b is set
-    /// exactly where block b may stand on cloud k. The byte of a block that may stand nowhere is 0,
+    /// exactly if block b may stand on cloud k. The byte of a block that may stand nowhere is 0,
     /// and so are those past the last block.
     ///
-    /// A panel offers these clouds for the block and greys out the others. Whether the clouds chosen
-    /// for all blocks go together is for [`judge`](Self::judge) to say.
+    /// A panel offers these clouds for the block and greys out the others. Whether the clouds
+    /// chosen for all blocks go together is for [`judge`](Self::judge) to say.
     ///
     /// ```
     /// use panel::Description;
@@ -97,7 +118,7 @@ impl Description {
         masks
     }
 
-    /// Judges a placement: `Ok` where it is secure.
+    /// Judges a placement: `Ok` if it is secure.
     ///
     /// ```
     /// use panel::Description;
@@ -116,6 +137,79 @@ impl Description {
     /// what breaks a pair.
     pub fn judge(&self, placement: &Placement) -> Result<(), Refusal> {
         calls::judge(&self.bytes, placement)
+    }
+
+    /// What a secure placement costs, and what of that is for storage, for transfers and for cpu.
+    /// The placement need not be a row.
+    ///
+    /// ```
+    /// use panel::Description;
+    ///
+    /// let interview = Description::read(include_bytes!("../../../examples/interview.bin"))?;
+    /// let bill = interview.bill(&[1, 1, 1, 0, 0].into())?;
+    /// assert_eq!(bill.cost(), 2970);
+    /// assert_eq!(bill.storage() + bill.transfer() + bill.cpu(), 2970);
+    /// # Ok::<(), panel::Refusal>(())
+    /// ```
+    ///
+    /// # Errors
+    ///
+    /// Refuses what [`judge`](Self::judge) refuses.
+    pub fn bill(&self, placement: &Placement) -> Result<Bill, Refusal> {
+        let mut amounts = [0; 4];
+        calls::bill(&self.bytes, placement, &mut amounts)?;
+        Ok(Bill::new(amounts))
+    }
+
+    /// Whether a position of a placement may have a cloud, and if not, which test fails first.
+    /// Every position and every cloud can be asked about.
+    ///
+    /// ```
+    /// use panel::{Description, Standing};
+    ///
+    /// let interview = Description::read(include_bytes!("../../../examples/interview.bin"))?;
+    /// assert_eq!(interview.standing(0, 0), Standing::NotCovered);
+    /// assert_eq!(interview.standing(0, 1), Standing::Allowed);
+    /// assert_eq!(interview.standing(0, 2), Standing::NoSuchCloud);
+    /// assert_eq!(interview.standing(5, 1), Standing::NoBlock);
+    /// # Ok::<(), panel::Refusal>(())
+    /// ```
+    #[must_use]
+    pub fn standing(&self, position: usize, cloud: u8) -> Standing {
+        let mut reason = 0;
+        accepted(calls::standing(&self.bytes, position, cloud, &mut reason));
+        Standing::of(reason)
+    }
+
+    /// Why a placement is no candidate (number 13): the lowest position that may not have its
+    /// cloud, and which test fails there. `None` if it is a candidate, whether or not it is secure;
+    /// what [`judge`](Self::judge) refuses with 14, 15 or 17 is said by its refusal.
+    ///
+    /// ```
+    /// use panel::{Description, Misplaced, Standing};
+    ///
+    /// let interview = Description::read(include_bytes!("../../../examples/interview.bin"))?;
+    /// assert_eq!(
+    ///     interview.why_not(&[0, 1, 1, 1, 1].into()),
+    ///     Some(Misplaced { position: 0, cloud: 0, standing: Standing::NotCovered })
+    /// );
+    /// assert_eq!(interview.why_not(&[1, 1, 1, 1, 1].into()), None);
+    /// # Ok::<(), panel::Refusal>(())
+    /// ```
+    #[must_use]
+    pub fn why_not(&self, placement: &Placement) -> Option<Misplaced> {
+        let refusal = self.judge(placement).err()?;
+        if refusal.reason() != Reason::NoCandidate {
+            return None;
+        }
+        let position = refusal.place as usize;
+        let cloud = placement.0[position];
+        let standing = self.standing(position, cloud);
+        Some(Misplaced {
+            position,
+            cloud,
+            standing,
+        })
     }
 
     /// Counts the placements of each kind.
@@ -208,7 +302,7 @@ impl Description {
         Ok(text.copied().map(char::from).collect())
     }
 
-    /// The first row that is strictly later than the cursor, or `None` where there is none.
+    /// The first row that is strictly later than the cursor, or `None` if there is none.
     ///
     /// Each draw walks over all candidates; to have every row, [`list`](Self::list) walks once.
     ///

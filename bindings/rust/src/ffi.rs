@@ -1,4 +1,5 @@
-//! The functions of `libpanel.a`, each behind a safe one. All `unsafe` of this crate is here.
+//! The functions of `libpanel.a`, each with a safe one around it. All `unsafe` of this crate is
+//! here.
 //!
 //! What every use relies on: the library is proved to read and write within the lengths that it is
 //! given, for every input, and to keep nothing after it returns. A Rust slice or array reference is
@@ -37,6 +38,19 @@ mod library {
             length: usize,
             placement: *const u8,
             count: *mut u64,
+        ) -> Status;
+        pub fn panel_bill(
+            description: *const u8,
+            length: usize,
+            placement: *const u8,
+            amounts: *mut u64,
+        ) -> Status;
+        pub fn panel_standing(
+            description: *const u8,
+            length: usize,
+            position: usize,
+            cloud: u8,
+            reason: *mut u64,
         ) -> Status;
         pub fn panel_census(description: *const u8, length: usize, figures: *mut u64) -> Status;
         pub fn panel_draw(
@@ -131,6 +145,20 @@ pub fn picture_size(description: &[u8], placement: &[u8; 16], count: &mut u64) -
     // SAFETY: `bytes` is valid for `length` reads, `placement` for sixteen, and `count` for the one
     // word that is written.
     unsafe { library::panel_picture_size(bytes, length, placement.as_ptr(), count) }
+}
+
+pub fn bill(description: &[u8], placement: &[u8; 16], amounts: &mut [u64; 4]) -> Status {
+    let (bytes, length) = (description.as_ptr(), description.len());
+    let (placement, amounts) = (placement.as_ptr(), amounts.as_mut_ptr());
+    // SAFETY: `bytes` is valid for `length` reads, `placement` for sixteen, and `amounts` for the
+    // four words that are written.
+    unsafe { library::panel_bill(bytes, length, placement, amounts) }
+}
+
+pub fn standing(description: &[u8], position: usize, cloud: u8, reason: &mut u64) -> Status {
+    let (bytes, length) = (description.as_ptr(), description.len());
+    // SAFETY: `bytes` is valid for `length` reads, and `reason` for the one word that is written.
+    unsafe { library::panel_standing(bytes, length, position, cloud, reason) }
 }
 
 pub fn census(description: &[u8], figures: &mut [u64; 6]) -> Status {

@@ -1,5 +1,6 @@
 //! What is put to the calls and what they answer.
 
+use std::error::Error;
 use std::fmt;
 
 use crate::calls::ROW;
@@ -21,6 +22,16 @@ use crate::calls::ROW;
 /// ```compile_fail
 /// let placement = panel::Placement::from([0; 17]);
 /// ```
+///
+/// From a slice, whose length is known only when the program runs, it may fail:
+///
+/// ```
+/// use panel::{NoPlacement, Placement};
+///
+/// let clouds = vec![1, 1, 0, 0, 0];
+/// assert_eq!(Placement::try_from(&clouds[..]), Ok(Placement::from([1, 1])));
+/// assert_eq!(Placement::try_from(&[0; 17][..]), Err(NoPlacement { length: 17 }));
+/// ```
 #[derive(Debug, Clone, Copy, PartialEq, Eq, PartialOrd, Ord, Hash, Default)]
 pub struct Placement(
     /// The sixteen bytes.
@@ -33,6 +44,114 @@ impl<const N: usize> From<[u8; N]> for Placement {
         let mut bytes = [0; 16];
         bytes[..N].copy_from_slice(&clouds);
         Placement(bytes)
+    }
+}
+
+impl TryFrom<&[u8]> for Placement {
+    type Error = NoPlacement;
+
+    /// From the clouds of the first blocks, up to sixteen; zeros fill up the other positions.
+    fn try_from(clouds: &[u8]) -> Result<Self, NoPlacement> {
+        let mut bytes = [0; 16];
+        let length = clouds.len();
+        let first = bytes.get_mut(..length).ok_or(NoPlacement { length })?;
+        first.copy_from_slice(clouds);
+        Ok(Placement(bytes))
+    }
+}
+
+/// More clouds than a placement has positions.
+///
+/// ```
+/// let error = panel::NoPlacement { length: 17 };
+/// assert_eq!(error.to_string(), "17 clouds are no placement; it has sixteen positions");
+/// ```
+#[derive(Debug, Clone, Copy, PartialEq, Eq, Hash)]
+pub struct NoPlacement {
+    /// How many clouds there were, more than sixteen.
+    pub length: usize,
+}
+
+impl Error for NoPlacement {}
+
+impl fmt::Display for NoPlacement {
+    fn fmt(&self, f: &mut fmt::Formatter<'_>) -> fmt::Result {
+        let NoPlacement { length } = self;
+        write!(
+            f,
+            "{length} clouds are no placement; it has sixteen positions"
+        )
+    }
+}
+
+/// What a secure placement costs, and the amounts that make up its cost: for storage, for transfers
+/// and for cpu.
+///
+/// It is shown as the four numbers, the cost first, with single spaces in between.
+///
+/// ```
+/// use panel::Description;
+///
+/// let interview = Description::read(include_bytes!("../../../examples/interview.bin"))?;
+/// let bill = interview.bill(&[1, 1, 1, 0, 0].into())?;
+/// assert_eq!((bill.cost(), bill.storage(), bill.transfer(), bill.cpu()), (2970, 1370, 100, 1500));
+/// assert_eq!(bill.to_string(), "2970 1370 100 1500");
+/// # Ok::<(), panel::Refusal>(())
+/// ```
+#[derive(Debug, Clone, Copy, PartialEq, Eq, Hash)]
+pub struct Bill {
+    cost: u64,
+    storage: u64,
+    transfer: u64,
+    cpu: u64,
+}
+
+impl Bill {
+    /// From the words of the call, in the order of the fields.
+    pub(crate) fn new([cost, storage, transfer, cpu]: [u64; 4]) -> Self {
+        Bill {
+            cost,
+            storage,
+            transfer,
+            cpu,
+        }
+    }
+
+    /// What the placement costs: the sum of its storage, transfer and cpu; below 2^53.
+    #[must_use]
+    pub fn cost(&self) -> u64 {
+        self.cost
+    }
+
+    /// What storage is charged: the data for their time, and each copy that a transfer leaves with
+    /// its service for one month there.
+    #[must_use]
+    pub fn storage(&self) -> u64 {
+        self.storage
+    }
+
+    /// What the transfers are charged, by the clouds that data leave and those that they enter.
+    #[must_use]
+    pub fn transfer(&self) -> u64 {
+        self.transfer
+    }
+
+    /// What the services are charged for their cpu units.
+    #[must_use]
+    pub fn cpu(&self) -> u64 {
+        self.cpu
+    }
+}
+
+impl fmt::Display for Bill {
+    fn fmt(&self, f: &mut fmt::Formatter<'_>) -> fmt::Result {
+        let Bill {
+            cost,
+            storage,
+            transfer,
+            cpu,
+        } = self;
+        write!(f, "{cost} {storage} {transfer} {cpu}")
     }
 }
 
@@ -116,6 +235,15 @@ impl Row {
     #[must_use]
     pub fn cpu(&self) -> u64 {
         self.cpu
+    }
+
+    /// The cost and its amounts together, as [`Description::bill`] gives them for any secure
+    /// placement.
+    ///
+    /// [`Description::bill`]: crate::Description::bill
+    #[must_use]
+    pub fn bill(&self) -> Bill {
+        Bill::new([self.cost, self.storage, self.transfer, self.cpu])
     }
 
     /// The placement, to judge it or to ask for its transfers or its picture.
@@ -239,6 +367,33 @@ mod tests {
         assert_eq!(Placement::from([]), Placement::default());
         assert_eq!(Placement::from([7]).0[..2], [7, 0]);
         assert_eq!(Placement::from([5; 16]).0, [5; 16]);
+    }
+
+    #[test]
+    fn a_slice_of_up_to_sixteen_clouds_is_a_placement() {
+        for length in 0..=16 {
+            let clouds = vec![7; length];
+            let placement = Placement::try_from(&clouds[..]).expect("there is room");
+            let (first, rest) = placement.0.split_at(length);
+            assert_eq!(first, clouds);
+            assert!(rest.iter().all(|&cloud| cloud == 0));
+        }
+        // Zeros too many are no better than other clouds too many.
+        for length in [17, 18, 300] {
+            let refused = Placement::try_from(&vec![0; length][..]);
+            assert_eq!(refused, Err(NoPlacement { length }));
+        }
+        let error: Box<dyn Error> = Box::new(NoPlacement { length: 20 });
+        assert!(error.to_string().starts_with("20 clouds "));
+    }
+
+    #[test]
+    fn a_bill_keeps_the_order_of_its_words() {
+        let bill = Bill::new([10, 1, 2, 7]);
+        assert_eq!((bill.cost(), bill.storage()), (10, 1));
+        assert_eq!((bill.transfer(), bill.cpu()), (2, 7));
+        assert_eq!(bill.to_string(), "10 1 2 7");
+        assert_eq!(Row::new(10, [1].into(), 1, [1, 2, 7]).bill(), bill);
     }
 
     #[test]

@@ -1,6 +1,7 @@
 //! The stored examples and the examples of docs/FORMAT.md, through the public types.
 
-use panel::{Census, Cursor, Description, Label, Placement, Refusal, Transfer, calls};
+use panel::{Bill, Census, Cursor, Description, Label, Misplaced, NoLabel, NoPlacement, Placement};
+use panel::{Reason, Refusal, Row, Rows, Standing, Transfer, builder, calls, parts};
 
 const INTERVIEW: &[u8] = include_bytes!("../../../examples/interview.bin");
 const SECOND: &[u8] = include_bytes!("../../../examples/second.bin");
@@ -387,6 +388,129 @@ fn placements_are_judged_as_documented() {
 }
 
 #[test]
+fn placements_have_bills_as_documented() {
+    let bill = |bytes: &[u8], placement: Placement| {
+        let mut amounts = [7; 4];
+        let answer = calls::bill(bytes, &placement, &mut amounts);
+        let shown = accepted(bytes).bill(&placement).map(|bill| {
+            assert_eq!(bill.cost(), bill.storage() + bill.transfer() + bill.cpu());
+            [bill.cost(), bill.storage(), bill.transfer(), bill.cpu()]
+        });
+        // After a refusal the words are as before.
+        let words = if answer.is_ok() { amounts } else { [7; 4] };
+        assert_eq!((amounts, shown), (words, answer.map(|()| amounts)));
+        shown
+    };
+    let refused = |number, place| Err(Refusal { number, place });
+    // 11100 is the option of the row 11000.
+    let by_hand = [2970, 1370, 100, 1500];
+    assert_eq!(bill(INTERVIEW, [1, 1, 1, 0, 0].into()), Ok(by_hand));
+    assert_eq!(
+        bill(INTERVIEW, [1, 1, 1, 1, 1].into()),
+        Ok([2820, 1320, 0, 1500])
+    );
+    assert_eq!(bill(INTERVIEW, [1, 0, 0, 0, 0].into()), refused(14, 0));
+    assert_eq!(bill(INTERVIEW, [0, 1, 1, 1, 1].into()), refused(13, 0));
+    assert_eq!(bill(APART, [1, 1, 1, 1, 1].into()), refused(17, 0));
+    let first_lowered = [0, 1, 1, 1, 1, 1, 0, 0, 1, 1];
+    assert_eq!(bill(SECOND, first_lowered.into()), refused(15, 0));
+    let cut = calls::bill(&INTERVIEW[..64], &[1].into(), &mut [0; 4]);
+    assert_eq!(cut.map_err(|refusal| refusal.number), Err(1));
+}
+
+#[test]
+fn a_row_has_the_bill_of_its_placement() {
+    for bytes in [INTERVIEW, SECOND, APART] {
+        let description = accepted(bytes);
+        for row in description.list() {
+            assert_eq!(description.bill(row.placement()), Ok(row.bill()));
+        }
+    }
+}
+
+#[test]
+fn positions_have_clouds_as_documented() {
+    let interview = accepted(INTERVIEW);
+    assert_eq!(interview.standing(0, 0), Standing::NotCovered);
+    assert_eq!(interview.standing(0, 1), Standing::Allowed);
+    assert_eq!(interview.standing(0, 2), Standing::NoSuchCloud);
+    assert_eq!(interview.standing(5, 0), Standing::Allowed);
+    assert_eq!(interview.standing(5, 1), Standing::NoBlock);
+    assert_eq!(interview.standing(255, 9), Standing::NoBlock);
+    for position in [16, 256, usize::MAX] {
+        assert_eq!(interview.standing(position, 0), Standing::Allowed);
+        assert_eq!(interview.standing(position, 1), Standing::NoBlock);
+    }
+    // The label is looked at before the pin, and the cloud before both.
+    let pinned = accepted(&interview_with(&[6, 0, 0, 6, 4, 0]));
+    assert_eq!(pinned.standing(0, 0), Standing::NotCovered);
+    assert_eq!(pinned.standing(0, 1), Standing::NotPermitted);
+    assert_eq!(pinned.standing(0, 2), Standing::NoSuchCloud);
+    assert_eq!(pinned.standing(4, 1), Standing::NotPermitted);
+    let mut reason = 7;
+    let refused = calls::standing(&INTERVIEW[..64], 0, 0, &mut reason);
+    assert_eq!(refused.map_err(|refusal| refusal.number), Err(1));
+    assert_eq!(reason, 7);
+}
+
+/// A block may have exactly the clouds of its mask.
+#[test]
+fn standings_and_masks_agree() {
+    for bytes in [INTERVIEW, SECOND, APART, &on_mixed_clouds()] {
+        let description = accepted(bytes);
+        for (block, &mask) in masks(bytes).iter().enumerate() {
+            for cloud in 0..=255 {
+                let offered = cloud < 8 && mask >> cloud & 1 == 1;
+                assert_eq!(description.standing(block, cloud).is_allowed(), offered);
+            }
+        }
+    }
+}
+
+#[test]
+fn the_reason_for_13_is_that_of_the_lowest_position() {
+    let pinned = accepted(&interview_with(&[6, 4, 0]));
+    let why = |clouds: [u8; 6]| {
+        let why = pinned.why_not(&clouds.into())?;
+        let refused = pinned
+            .judge(&clouds.into())
+            .map_err(|refusal| refusal.place);
+        assert_eq!(refused, Err(why.position as u64));
+        Some((why.position, why.cloud, why.standing))
+    };
+    assert_eq!(why([0, 1, 1, 9, 1, 9]), Some((0, 0, Standing::NotCovered)));
+    assert_eq!(why([1, 1, 1, 9, 1, 9]), Some((3, 9, Standing::NoSuchCloud)));
+    assert_eq!(
+        why([1, 1, 1, 1, 1, 9]),
+        Some((4, 1, Standing::NotPermitted))
+    );
+    assert_eq!(why([1, 1, 1, 1, 0, 9]), Some((5, 9, Standing::NoBlock)));
+    assert_eq!(why([1, 1, 1, 1, 0, 0]), None);
+    // No candidate is refused here, although rule 16 is broken.
+    assert_eq!(why([1, 0, 1, 1, 0, 0]), None);
+    assert!(pinned.judge(&[1, 0, 1, 1, 0].into()).is_err());
+}
+
+#[test]
+fn everything_may_be_shared_by_threads() {
+    fn shared<T: Send + Sync>() {}
+    shared::<Description>();
+    shared::<Rows<'_>>();
+    shared::<(Row, Bill, Census, Cursor, Placement, Transfer, Label)>();
+    shared::<(Refusal, Reason, Standing, Misplaced, NoLabel, NoPlacement)>();
+    shared::<(builder::Builder, builder::Names, builder::BuildError)>();
+    shared::<parts::Parts>();
+    let interview = accepted(INTERVIEW);
+    let rows = interview.list();
+    std::thread::scope(|scope| {
+        let threads = [0; 4].map(|_| scope.spawn(|| interview.list()));
+        for thread in threads {
+            assert_eq!(thread.join().expect("no thread panics"), rows);
+        }
+    });
+}
+
+#[test]
 fn transfers_are_listed_in_edge_order() {
     let description = accepted(INTERVIEW);
     let transfers = |placement: Placement| description.transfers(&placement);
@@ -474,7 +598,7 @@ fn the_size_is_what_is_written_for_every_row() {
             let measured = calls::picture_size(bytes, row.placement(), &mut size);
             assert_eq!((pictured, measured), (Ok(()), Ok(())));
             assert_eq!(written, size);
-            // No byte of a text is zero, and those behind it were not written.
+            // No byte of a text is zero, and those after it were not written.
             let (text, rest) = buffer.split_at(size as usize);
             assert!(!text.contains(&0) && rest.iter().all(|&byte| byte == 0));
             let shown = description.picture(row.placement());

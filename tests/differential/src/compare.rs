@@ -8,14 +8,16 @@ use reference::description::{Description, Refusal, decode, read};
 use reference::random::Random;
 use reference::rules::{Placement, Priced, Row};
 
+use crate::built;
 use crate::copies::Turned;
 use crate::generate::Kind;
 use crate::labels::{self, Marked, for_a_mark};
 use crate::lent::{Checked, Lent};
 use crate::mask;
-use crate::operands::{cursor, placement, room, rooms};
+use crate::operands::{cursor, placement, position_and_cloud, room, rooms};
 use crate::picture::{kind_of, room_seen, seen_in};
-use crate::tally::{Call, TURNED, TURNED_AT_EQUAL_COST, Tally};
+use crate::standing;
+use crate::tally::{Call, NO_ROW, TURNED, TURNED_AT_EQUAL_COST, Tally};
 use crate::text::has_half;
 use crate::wrapped;
 
@@ -74,10 +76,13 @@ impl<'a> Input<'a> {
         let times = if self.described.is_ok() { 4 } else { 1 };
         self.read()?;
         self.masks()?;
+        self.built()?;
         for _ in 0..times {
             self.judge()?;
             self.transfers()?;
             self.pictures()?;
+            self.bill()?;
+            self.standing()?;
         }
         if walks {
             self.census()?;
@@ -96,12 +101,27 @@ impl<'a> Input<'a> {
     fn wrapped(&mut self) -> Agreed {
         let wrapped = wrapped::difference(self.text.get(), self.described(), &self.rows);
         if let Some(part) = wrapped {
-            let text = self.hexadecimal();
-            let message = format!("description {text}\ndifference  the wrapper's {part}");
-            return Err(Difference(message));
+            return Err(self.wrong(&format!("the wrapper's {part}")));
         }
         self.tally.shown("wrapper compared");
         Ok(())
+    }
+
+    /// The wrapper's builder takes exactly the commands that Read takes, makes the same bytes of
+    /// them, and takes an accepted description apart.
+    fn built(&mut self) -> Agreed {
+        let built = built::difference(self.text.get(), self.described());
+        if let Some(part) = built {
+            return Err(self.wrong(&format!("the builder's {part}")));
+        }
+        self.tally.shown("builder compared");
+        Ok(())
+    }
+
+    /// A difference that is no matter of one call.
+    fn wrong(&self, subject: &str) -> Difference {
+        let text = self.hexadecimal();
+        Difference(format!("description {text}\ndifference  {subject}"))
     }
 
     /// Has the reference list the rows, unless that takes too long; says whether the calls that
@@ -206,13 +226,29 @@ impl<'a> Input<'a> {
         {
             self.tally.shown(name);
         }
+        let library = engine::judge(self.text.get(), &Placed(placement));
         let case = Case {
             call: Call::Judge,
             operands: &placement,
-            library: engine::judge(self.text.get(), &Placed(placement)),
+            library,
             reference: judged.map(|()| "secure"),
         };
-        self.settle(&case, &[])
+        self.settle(&case, &[])?;
+        self.thirteen(&placement, library)
+    }
+
+    /// The law of Judge and Standing, of the library alone: 13 is at the lowest position that may
+    /// not have its cloud, and there is no 13 if there is no such position.
+    fn thirteen(&mut self, placement: &Placement, judged: Result<(), panel::Refusal>) -> Agreed {
+        if self.described.is_err() {
+            return Ok(());
+        }
+        if standing::lowest_misplaced(self.text.get(), placement) != standing::place_of_13(judged) {
+            let subject = format!("Judge and Standing part at {placement:?}");
+            return Err(self.wrong(&subject));
+        }
+        self.tally.shown("13 as Standing has it");
+        Ok(())
     }
 
     fn transfers(&mut self) -> Agreed {
@@ -286,6 +322,52 @@ impl<'a> Input<'a> {
             reference,
         };
         self.settle(&case, &[&count])
+    }
+
+    fn bill(&mut self) -> Agreed {
+        let placement = self.placement();
+        let mut amounts = Lent::<u64>::new(self.random, 4);
+        let listed = self.listed(&placement);
+        let reference = self.described().and_then(|described| {
+            amounts.expect(&described.bill(&placement)?);
+            Ok(listed)
+        });
+        let case = Case {
+            call: Call::Bill,
+            operands: &placement,
+            library: engine::bill(self.text.get(), &Placed(placement), amounts.lend_array()),
+            reference,
+        };
+        self.settle(&case, &[&amounts])
+    }
+
+    /// What the bill of a secure placement is counted as: of a row, of none, or of a description
+    /// whose rows were not listed.
+    fn listed(&self, placement: &Placement) -> &'static str {
+        match self.rows.as_slice() {
+            [] => "rows unknown",
+            rows if rows.iter().any(|row| row.placement == *placement) => "a row",
+            _ => NO_ROW,
+        }
+    }
+
+    fn standing(&mut self) -> Agreed {
+        let described = self.described.as_ref().ok();
+        let (position, cloud) = position_and_cloud(self.random, described);
+        let mut reason = Lent::<u64>::new(self.random, 1);
+        let reference = self.described().map(|described| {
+            let standing = described.standing(position, cloud);
+            reason.expect(&[standing as u64]);
+            standing::name_of(standing)
+        });
+        let [lent_reason] = reason.lend_array();
+        let case = Case {
+            call: Call::Standing,
+            operands: &(position, cloud),
+            library: engine::standing(self.text.get(), position, cloud, lent_reason),
+            reference,
+        };
+        self.settle(&case, &[&reason])
     }
 
     fn census(&mut self) -> Agreed {

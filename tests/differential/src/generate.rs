@@ -76,7 +76,7 @@ fn pipe(random: &mut Random) -> Vec<u8> {
 }
 
 /// Service, datum, service, datum: each datum written by the service before it and read by the one
-/// behind it.
+/// after it.
 fn services_and_data(text: &mut Text, labels: &[u8], clearance: u8, brief: bool) {
     for (block, &label) in labels.iter().enumerate() {
         match (block % 2, brief) {
@@ -375,7 +375,7 @@ fn insert(text: &mut Vec<u8>, at: usize, bytes: &[u8]) {
     text.splice(at..at, bytes.iter().copied());
 }
 
-/// The start of some command, or of what stands behind the last.
+/// The start of some command, or of what comes after the last.
 fn some_start(random: &mut Random, text: &[u8]) -> usize {
     let commands = commands(text);
     let starts: Vec<usize> = commands.iter().map(|command| command.start).collect();

@@ -7,9 +7,10 @@
 //! So many calls, or so many seconds: `differential 100000 1`, `differential 60s 1`. One seed gives
 //! the same input every time. It prints what was tried and how it was answered. It fails at the
 //! first difference, which it prints with its input, and it fails if a number that a call can
-//! refuse with was never seen, or no row that the price of copies decides, or no refusal or option
-//! that a mark decides.
+//! refuse with was never seen, or an answer of Standing, or no bill of a placement that is no row,
+//! or no row that the price of copies decides, or no refusal or option that a mark decides.
 
+mod built;
 mod compare;
 mod copies;
 mod generate;
@@ -18,6 +19,7 @@ mod lent;
 mod mask;
 mod operands;
 mod picture;
+mod standing;
 mod tally;
 mod text;
 mod wrapped;

@@ -1,4 +1,4 @@
-//! Placements, cursors and rooms that a description is asked about.
+//! Placements, positions, cursors and rooms that a description is asked about.
 
 use reference::description::Description;
 use reference::random::Random;
@@ -22,6 +22,27 @@ pub fn placement(random: &mut Random, described: Option<&Description>, rows: &[R
         }
         _ => candidate(random, described),
     }
+}
+
+/// A position and a cloud for it: mostly of a block and declared, or just past the last one, or so
+/// high that a part of its bits would name a block.
+pub fn position_and_cloud(random: &mut Random, described: Option<&Description>) -> (usize, u8) {
+    let (clouds, blocks) = described.map_or((2, 5), |d| (d.clouds.len(), d.blocks.len()));
+    let block = random.below(blocks);
+    let position = match random.below(10) {
+        0 => blocks,
+        1 => random.below(20),
+        2 => random.pick(&[1 << 8, 1 << 16, 1 << 32, 1 << 63]) | block,
+        3 => random.pick(&[16, 255, usize::MAX]),
+        _ => block,
+    };
+    let cloud = match random.below(6) {
+        0 => 0,
+        1 => clouds as u8,
+        2 => random.pick(&[7, 8, 128, 255]),
+        _ => random.below(clouds) as u8,
+    };
+    (position, cloud)
 }
 
 fn loose_placement(random: &mut Random) -> Placement {

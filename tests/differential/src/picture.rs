@@ -1,4 +1,4 @@
-//! What a picture shows, told by its text.
+//! What a picture shows, as its text has it.
 
 use panel::calls::PICTURE;
 

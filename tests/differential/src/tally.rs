@@ -6,6 +6,7 @@ use std::time::Duration;
 
 use crate::generate::Kind;
 use crate::labels::{FOR_A_MARK, NEEDING, TAKEN};
+use crate::standing::STANDINGS;
 
 #[derive(Clone, Copy, PartialEq, Eq, PartialOrd, Ord, Debug)]
 pub enum Call {
@@ -15,19 +16,23 @@ pub enum Call {
     Transfers,
     Picture,
     PictureSize,
+    Bill,
+    Standing,
     Census,
     Draw,
     List,
 }
 
 impl Call {
-    const ALL: [Call; 9] = [
+    const ALL: [Call; 11] = [
         Call::Read,
         Call::Masks,
         Call::Judge,
         Call::Transfers,
         Call::Picture,
         Call::PictureSize,
+        Call::Bill,
+        Call::Standing,
         Call::Census,
         Call::Draw,
         Call::List,
@@ -36,8 +41,9 @@ impl Call {
     /// The numbers that the call can refuse with.
     fn numbers(self) -> impl Iterator<Item = u8> {
         let (range, more): (RangeInclusive<u8>, _) = match self {
-            Call::Read | Call::Masks | Call::Census | Call::Draw => (1..=12, None),
-            Call::Judge | Call::PictureSize => (1..=15, Some(17)),
+            Call::Read | Call::Masks | Call::Standing => (1..=12, None),
+            Call::Census | Call::Draw => (1..=12, None),
+            Call::Judge | Call::PictureSize | Call::Bill => (1..=15, Some(17)),
             Call::Transfers | Call::Picture => (1..=17, None),
             Call::List => (1..=12, Some(16)),
         };
@@ -49,6 +55,9 @@ impl Call {
 /// are counted one by one, and some must be seen.
 pub const TURNED: &str = "rows turned by copies";
 pub const TURNED_AT_EQUAL_COST: &str = "rows turned by copies at equal cost";
+
+/// What Bill answers for a placement that is no row; some must be seen.
+pub const NO_ROW: &str = "no row";
 
 #[derive(Default)]
 pub struct Tally {
@@ -95,8 +104,9 @@ impl Tally {
         self.refusals.get(&(call, number)).copied().unwrap_or(0)
     }
 
-    /// What should have been seen and was not: refusals, rows that the price of copies decides,
-    /// refusals and options that a mark decides.
+    /// What should have been seen and was not: refusals, the answers of Standing, bills of
+    /// placements that are no rows, rows that the price of copies decides, refusals and options
+    /// that a mark decides.
     pub fn missing(&self) -> Vec<String> {
         let due = Call::ALL
             .into_iter()
@@ -104,13 +114,19 @@ impl Tally {
         let refusals = due
             .filter(|&(call, number)| self.refusals_of(call, number) == 0)
             .map(|(call, number)| format!("{call:?} {number}"));
+        let answers = STANDINGS
+            .map(|name| (Call::Standing, name))
+            .into_iter()
+            .chain([(Call::Bill, NO_ROW)])
+            .filter(|answer| !self.answers.contains_key(answer))
+            .map(|(call, name)| format!("{call:?} {name}"));
         let for_a_mark = FOR_A_MARK.into_iter().map(|(_, name)| name);
         let traits = [TURNED, TURNED_AT_EQUAL_COST, TAKEN, NEEDING]
             .into_iter()
             .chain(for_a_mark)
             .filter(|name| self.traits.get(name).is_none_or(|&times| times == 0))
             .map(str::to_string);
-        refusals.chain(traits).collect()
+        refusals.chain(answers).chain(traits).collect()
     }
 
     pub fn print(&self, seed: u64, taken: Duration) {

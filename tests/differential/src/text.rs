@@ -168,7 +168,7 @@ impl<'a> Text<'a> {
         marks & self.random.pick(&self.clouds)
     }
 
-    /// Where labels differ in their marks, a location often has none, so that services may write.
+    /// If labels differ in their marks, a location often has none, so that services may write.
     fn location_marks(&mut self, marks: &[u8]) -> u8 {
         if marks.len() > 1 && self.random.one_in(2) {
             return 0;

@@ -32,6 +32,7 @@ fn first_difference(
     let drawn: Vec<panel::Row> = wrapped.rows().take(DRAWN).collect();
     let same_moves = |row| same_transfers(wrapped, described, row);
     let same_text = |row| same_picture(wrapped, described, row);
+    let same_price = |row| same_bill(wrapped, described, row);
     let same_length = |row: &panel::Row| row.clouds().len() == described.blocks.len();
     let parts = [
         ("counts", same_counts(wrapped, described)),
@@ -45,6 +46,12 @@ fn first_difference(
         ("clouds", drawn.iter().all(same_length)),
         ("transfers", first.iter().all(same_moves)),
         ("pictures", first.iter().all(same_text)),
+        ("bills", first.iter().all(same_price)),
+        ("standings", same_standings(wrapped, described)),
+        (
+            "reasons",
+            first.iter().all(|row| same_why(wrapped, described, row)),
+        ),
     ];
     let (name, _) = parts.into_iter().find(|(_, same)| !same)?;
     Some(name)
@@ -88,4 +95,45 @@ fn same_transfers(wrapped: &panel::Description, described: &Description, row: &R
 fn same_picture(wrapped: &panel::Description, described: &Description, row: &Row) -> bool {
     let found = wrapped.picture(&row.placement.into());
     found.ok() == described.picture(&row.placement, usize::MAX).ok()
+}
+
+fn same_bill(wrapped: &panel::Description, described: &Description, row: &Row) -> bool {
+    let found = wrapped.bill(&row.placement.into());
+    let words = found.map(|bill| [bill.cost(), bill.storage(), bill.transfer(), bill.cpu()]);
+    words.ok() == described.bill(&row.placement).ok()
+}
+
+/// All positions and a few more, on all declared clouds and some others.
+fn same_standings(wrapped: &panel::Description, described: &Description) -> bool {
+    let mut positions = (0..18).chain([255, 256, usize::MAX]);
+    positions.all(|position| {
+        let mut clouds = (0..10).chain([128, 255]);
+        clouds.all(|cloud| {
+            let found = wrapped.standing(position, cloud).number();
+            u64::from(found) == described.standing(position, cloud) as u64
+        })
+    })
+}
+
+/// The row with one byte changed, at each position: where it is refused with 13, and for which
+/// test.
+fn same_why(wrapped: &panel::Description, described: &Description, row: &Row) -> bool {
+    (0..16).all(|position| {
+        let mut placement = row.placement;
+        placement[position] ^= 1;
+        let found = wrapped.why_not(&placement.into());
+        let found = found.map(|why| (why.position, why.cloud, u64::from(why.standing.number())));
+        let refused = described.judge(&placement).err();
+        let due = refused
+            .filter(|refusal| refusal.number == 13)
+            .map(|refusal| {
+                let at = refusal.place;
+                (
+                    at,
+                    placement[at],
+                    described.standing(at, placement[at]) as u64,
+                )
+            });
+        found == due
+    })
 }

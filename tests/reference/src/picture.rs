@@ -10,7 +10,7 @@ use crate::rules::Placement;
 const FIRST_LINE: &str = "digraph p {\n";
 const LAST_LINE: &str = "}\n";
 const ARROW: &str = " -> ";
-/// Two spaces before a path, a semicolon and the newline behind it.
+/// Two spaces before a path, a semicolon and the newline after it.
 const AROUND_PATH: usize = 4;
 
 /// What the arrows of a path lead from and to.

@@ -171,7 +171,7 @@ impl Description {
         let charge = |edge: &Edge, service, datum| {
             self.transfer(edge, service, datum) + self.copy(edge, service, datum)
         };
-        self.standing(placement, |_| true) + self.over_edges(placement, charge)
+        self.in_place(placement, |_| true) + self.over_edges(placement, charge)
     }
 
     /// The placement with its cost, and with each amount as a sum of its own.
@@ -180,15 +180,15 @@ impl Description {
         Row {
             cost,
             placement,
-            storage: self.standing(&placement, Block::is_datum) + self.copies(&placement),
+            storage: self.in_place(&placement, Block::is_datum) + self.copies(&placement),
             transfer: self.moving(&placement),
-            cpu: self.standing(&placement, |block| !block.is_datum()),
+            cpu: self.in_place(&placement, |block| !block.is_datum()),
         }
     }
 
     /// What some of the blocks are charged where they stand: data for their time in storage,
     /// services for cpu.
-    fn standing(&self, placement: &Placement, counts: impl Fn(&Block) -> bool) -> u64 {
+    fn in_place(&self, placement: &Placement, counts: impl Fn(&Block) -> bool) -> u64 {
         let blocks = self.blocks.iter().zip(placement);
         blocks
             .filter(|(block, _)| counts(block))

@@ -4,7 +4,7 @@
 use std::collections::HashMap;
 use std::fmt::Write;
 
-use reference::calls::{draw, list};
+use reference::calls::{Census, draw, list};
 use reference::description::{Description, Refusal, read};
 use reference::rules::{Placement, Priced, Row};
 
@@ -73,15 +73,25 @@ fn answer(letter: u8, text: &[u8], operands: &[u8], lists: &mut Lists) -> Result
             with_buffer(format!("picture {}", text.len()), text.as_bytes(), room)
         }
         b'B' => format!("bytes {}", described.picture_size(&placement(operands))?),
-        b'C' => {
-            let c = described.census(rows(lists, text, &described));
-            let [broken_16, broken_17] = [c.breaking_16, c.breaking_17_only];
-            let [apart, secure, options] = [c.apart_only, c.secure, c.options];
-            let candidates = c.candidates;
-            format!("census {candidates} {broken_16} {broken_17} {apart} {secure} {options}")
+        b'A' => billed(described.bill(&placement(operands))?),
+        b'W' => {
+            let standing = described.standing(operands[0].into(), operands[1]);
+            format!("standing {}", standing as u64)
         }
+        b'C' => counted(&described.census(rows(lists, text, &described))),
         _ => drawn(rows(lists, text, &described), operands),
     })
+}
+
+fn billed([cost, storage, transfer, cpu]: [u64; 4]) -> String {
+    format!("bill {cost} {storage} {transfer} {cpu}")
+}
+
+fn counted(c: &Census) -> String {
+    let [broken_16, broken_17] = [c.breaking_16, c.breaking_17_only];
+    let [apart, secure, options] = [c.apart_only, c.secure, c.options];
+    let candidates = c.candidates;
+    format!("census {candidates} {broken_16} {broken_17} {apart} {secure} {options}")
 }
 
 fn masks_line(described: &Description) -> String {
@@ -107,7 +117,7 @@ fn shown(row: &Row, blocks: usize) -> String {
     format!("{} {digits} {storage} {transfer} {cpu}", row.cost)
 }
 
-/// The line, and behind it the buffer as the call leaves it.
+/// The line, and after it the buffer as the call leaves it.
 fn with_buffer(mut line: String, front: &[u8], room: usize) -> String {
     if room > 0 {
         line.push(' ');
@@ -130,7 +140,8 @@ fn the_stored_cases_are_answered_alike() {
         let text = take(&mut rest, length);
         let width = match letter {
             b'R' | b'M' | b'C' => 0,
-            b'J' | b'B' => 16,
+            b'W' => 2,
+            b'J' | b'B' | b'A' => 16,
             b'T' | b'P' => 18,
             b'D' => 25,
             _ => panic!("letter {letter}"),
@@ -160,6 +171,27 @@ fn the_examples_are_listed_as_stored() {
         let lines: String = rows.iter().map(|row| shown(row, blocks) + "\n").collect();
         assert_eq!(format!("{lines}options {}\n", rows.len()), list);
     }
+}
+
+/// The lines of the two calls by hand, whether or not a stored case has these operands.
+#[test]
+fn bills_and_standings_have_their_lines() {
+    let line = |letter, operands: &[u8]| {
+        let answer = answer(letter, INTERVIEW, operands, &mut Lists::new());
+        answer.unwrap_or_else(|refusal| refusal.to_string())
+    };
+    let placed = |clouds: &[u8]| [clouds, &[0; 11]].concat();
+    assert_eq!(
+        line(b'A', &placed(&[1, 1, 1, 0, 0])),
+        "bill 2970 1370 100 1500"
+    );
+    assert_eq!(
+        line(b'A', &placed(&[1, 1, 1, 1, 1])),
+        "bill 2820 1320 0 1500"
+    );
+    assert_eq!(line(b'A', &placed(&[1, 0, 0, 0, 0])), "refused 14 0");
+    assert_eq!(line(b'W', &[0, 0]), "standing 2");
+    assert_eq!(line(b'W', &[255, 9]), "standing 4");
 }
 
 #[test]
