@@ -2,7 +2,7 @@
 ghost use mathlib.Core.Path.{_≡_};
 ghost use lib.ListN.{length, replicate};
 ghost use Rattle.description.specs.Meaning.{describes};
-ghost use Rattle.tables.specs.Building.{ownOf};
+ghost use Rattle.table_entries.specs.Building.{ownOf};
 use costs::terms::block_term;
 use description::words::MOST_CLOUDS;
 use description::words::Words;
