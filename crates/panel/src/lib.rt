@@ -11,6 +11,7 @@ ghost use Rattle.lister.specs.Calls.{censusCall, drawCall};
 ghost use Rattle.whole_list.specs.WholeList.{capacity, listCall, rowsAfter, scratchAfter};
 ghost use Rattle.statuses.specs.Statuses.{status, valuesAfter};
 ghost use Rattle.statuses.specs.Values.{counts as countValues, transferCount, byteCount, figures as figureValues, rowOrNone, rowBytes, price, extent as extentValues, one};
+use security::answers::Verdict;
 use statuses::masked_status;
 use statuses::put_count;
 use statuses::put_counts;
@@ -49,7 +50,7 @@ pub extern "C" fn panel_judge(description: &[u8], placement: &[u8; 16]) -> u64
     ensures { λ r. ⌜ r ≡ status (judgeCall (now (description .entry)) (now (placement .entry))) ⌝ }
 {
     let bytes = *placement;
-    let verdict = judging::judge(description, bytes);
+    let verdict: Verdict = judging::judge(description, bytes);
     verdict_status(verdict)
 }
 

@@ -8,8 +8,8 @@ use description::words::MOST_CLOUDS;
 use description::words::Words;
 use description::workflow::block_count;
 use description::workflow::cloud_count;
-use security::masks::Masks;
-use security::masks::POSITIONS;
+use soundness::masks::Masks;
+use soundness::masks::POSITIONS;
 
 // The masks of the blocks, as they were worked out.
 pub fn fill_masks(masks: &Masks, a: &mut [u8])
