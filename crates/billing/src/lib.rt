@@ -27,9 +27,9 @@ use description::workflow::edge_at;
 use description::workflow::edge_count;
 use description::workflow::is_write;
 use judging::acceptance::accept_secure;
+use placements::cloud_of;
+use placements::moves;
 use security::answers::Verdict;
-use security::placements::cloud_of;
-use security::placements::moves;
 use sequences::wide;
 
 // The cost and the three amounts that add up to it.

@@ -1,13 +1,11 @@
 pub mod BothFaults
-pub mod CommandBytes
 pub mod Commands
+pub mod Equations
 pub mod Front
 pub mod Limits
-pub mod Outcomes
 pub mod Plain
 pub mod Prefix
 pub mod Reading
 pub mod Refusals
-pub mod Steps
 pub mod Turns
 pub mod Written

@@ -3,4 +3,3 @@ pub mod Commands
 pub mod Format
 pub mod Inputs
 pub mod Order
-pub mod Steps

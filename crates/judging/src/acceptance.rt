@@ -6,20 +6,20 @@ ghost use Rattle.security.specs.Soundness.{sound, read};
 ghost use Rattle.judging.specs.Answers.{admissionOf, counted, masksAfter, verdictOn};
 ghost use Rattle.judging.specs.Calls.{judged, masked};
 use crate::answers::Admission;
-use decoding::decode;
 use description::words::Words;
 use description::words::clear;
 use description::workflow::Outcome;
 use description::workflow::Refusal;
+use reading::decode;
 use security::answers::Found;
 use security::answers::Rule;
 use security::answers::Verdict;
-use security::masks::Masks;
-use security::masks::POSITIONS;
-use security::masks::masks_of;
-use security::placements::first_breaking;
-use security::placements::verdict;
-use security::soundness::first_breaking_rule2;
+use soundness::first_breaking_rule2;
+use soundness::masks::Masks;
+use soundness::masks::POSITIONS;
+use soundness::masks::masks_of;
+use verdicts::first_breaking;
+use verdicts::verdict;
 
 // The numbers that a decoded description is refused with.
 const RULE_2: u8 = 9;

@@ -19,8 +19,8 @@ use description::workflow::block_count;
 use description::workflow::cloud_count;
 use description::workflow::edge_count;
 use security::answers::Verdict;
-use security::masks::Masks;
-use security::masks::POSITIONS;
+use soundness::masks::Masks;
+use soundness::masks::POSITIONS;
 use transfer_list::Transferred;
 
 // Read: the counts of clouds, blocks and edges of an accepted description, or its first refusal.
@@ -64,7 +64,7 @@ pub fn judge(description: &[u8], placement: [u8; 16]) -> Verdict
     let mut masks = [0u8; POSITIONS];
     let admission = acceptance::accept_with_masks(description, &mut w, &mut masks);
     match admission {
-        Admission::Accepted(_) => security::placements::verdict(&w, &masks, placement),
+        Admission::Accepted(_) => verdicts::verdict(&w, &masks, placement),
         Admission::Refused(r) => Verdict::Refused(r),
     }
 }

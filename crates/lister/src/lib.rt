@@ -11,7 +11,7 @@ use description::words::WORDS;
 use description::workflow::Refusal;
 use judging::acceptance::accept_with_masks;
 use judging::answers::Admission;
-use security::masks::POSITIONS;
+use soundness::masks::POSITIONS;
 use survey::Cursor;
 use survey::Figures;
 use survey::Next;

@@ -1,3 +1,1 @@
 pub mod Statements
-pub mod Statuses
-pub mod Values

@@ -10,7 +10,7 @@ use Rattle.standing.specs.Reasons.{standingCall}
 use Rattle.survey.specs.declared.Cursor.{Cursor}
 use Rattle.lister.specs.Calls.{censusCall, drawCall}
 use Rattle.whole_list.specs.WholeList.{listCall}
-use Rattle.panel.specs.Statuses.{status, refusalStatus}
+use Rattle.statuses.specs.Statuses.{status, refusalStatus}
 
 -- the status of an answer is 0; that of a refusal is not, its low 8 bits are the number, and the others are the place
 abbrev pub Readable : {A : Type 0} → Result A → Type 0

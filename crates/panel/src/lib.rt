@@ -1,203 +1,28 @@
-// The eleven calls for C, declared in `include/panel.h`. Each answers a status, 0 or a refusal's number and place in one word, and puts the
-// values of its answer into lent arrays, which a refusal leaves as they were.
+// The eleven calls for C, declared in `include/panel.h`. Each answers a status and puts the values of its answer into lent arrays.
 ghost use mathlib.Core.Path.{_≡_};
-ghost use Prim.Native.Nat.{_-_, _^_, min};
 ghost use lib.ListN.{length};
-ghost use Rattle.judging.specs.Answers.{readAnswer, maskedAnswer, masksAfter};
-ghost use Rattle.security.specs.Answers.{judgeAnswer};
-ghost use Rattle.transfer_list.specs.Answers.{transfersAnswer};
+ghost use Rattle.judging.specs.Answers.{masksAfter};
 ghost use Rattle.judging.specs.Calls.{readCall, masksCall, judgeCall, transfersCall};
 ghost use Rattle.transfer_list.specs.Transfers.{bufferAfter};
-ghost use Rattle.picture.specs.Answers.{pictureAnswer};
 ghost use Rattle.picture.specs.Calls.{pictureCall, sizeCall, bufferAfter as pictureAfter};
-ghost use Rattle.billing.specs.Answers.{billAnswer};
 ghost use Rattle.billing.specs.Calls.{billCall};
-ghost use Rattle.standing.specs.Answers.{standingAnswer};
 ghost use Rattle.standing.specs.Reasons.{standingCall};
-ghost use Rattle.lister.specs.Answers.{censusAnswer, drawAnswer};
 ghost use Rattle.lister.specs.Calls.{censusCall, drawCall};
-ghost use Rattle.whole_list.specs.WholeList.{capacity, listAnswer, listCall, rowsAfter, scratchAfter};
-ghost use Rattle.panel.specs.Statuses.{highestPlace, refusalStatus, status, valuesAfter};
-ghost use Rattle.panel.specs.Values.{counts as countValues, transferCount, byteCount, figures as figureValues, rowOrNone, rowBytes, price, extent as extentValues, one};
-use billing::Billed;
-use costs::answers::Bill;
-use description::workflow::Refusal;
-use judging::answers::Acceptance;
-use judging::answers::Masked;
-use lister::Answer;
-use lister::Counted;
-use lister::Drawn;
-use picture::Pictured;
+ghost use Rattle.whole_list.specs.WholeList.{capacity, listCall, rowsAfter, scratchAfter};
+ghost use Rattle.statuses.specs.Statuses.{status, valuesAfter};
+ghost use Rattle.statuses.specs.Values.{counts as countValues, transferCount, byteCount, figures as figureValues, rowOrNone, rowBytes, price, extent as extentValues, one};
 use security::answers::Verdict;
-use standing::Explanation;
-use standing::reason_number;
+use statuses::masked_status;
+use statuses::put_count;
+use statuses::put_counts;
+use statuses::put_extent;
+use statuses::put_figures;
+use statuses::put_price;
+use statuses::put_reason;
+use statuses::put_row;
+use statuses::put_size;
+use statuses::verdict_status;
 use survey::Cursor;
-use transfer_list::Transferred;
-use whole_list::Listed;
-
-// A place has 56 bits of a status, and this is the highest of them: 2^56 - 1.
-const HIGHEST_PLACE: usize = 72057594037927935;
-
-// A place that does not fit is the highest that does.
-fn kept_place(place: usize) -> u64
-    ensures { λ r. ⌜ r ≡ min place highestPlace ⌝ }
-{
-    if place < HIGHEST_PLACE {
-        place as u64
-    } else {
-        HIGHEST_PLACE as u64
-    }
-}
-
-fn refusal_status(refusal: Refusal) -> u64
-    ensures { λ r. ⌜ r ≡ refusalStatus (refusal .number) (refusal .place) ⌝ }
-{
-    refusal.number as u64 + 256 * kept_place(refusal.place)
-}
-
-fn put_counts(answer: Acceptance, counts: &mut [u64; 3]) -> u64
-    ensures { λ r. ⌜ r ≡ status (readAnswer answer) ⌝ }
-    ensures { λ _. ⌜ now (counts .exit) ≡ valuesAfter countValues (readAnswer answer) (now (counts .entry)) ⌝ }
-{
-    match answer {
-        Acceptance::Accepted {
-            clouds,
-            blocks,
-            edges,
-        } => {
-            *counts = [clouds as u64, blocks as u64, edges as u64];
-            0
-        }
-        Acceptance::Refused(r) => refusal_status(r),
-    }
-}
-
-fn masked_status(answer: Masked) -> u64
-    ensures { λ r. ⌜ r ≡ status (maskedAnswer answer) ⌝ }
-{
-    match answer {
-        Masked::Written => 0,
-        Masked::Refused(r) => refusal_status(r),
-    }
-}
-
-fn verdict_status(verdict: Verdict) -> u64
-    ensures { λ r. ⌜ r ≡ status (judgeAnswer verdict) ⌝ }
-{
-    match verdict {
-        Verdict::Secure => 0,
-        Verdict::Refused(r) => refusal_status(r),
-    }
-}
-
-fn put_count(answer: Transferred, count: &mut [u64; 1]) -> u64
-    ensures { λ r. ⌜ r ≡ status (transfersAnswer answer) ⌝ }
-    ensures { λ _. ⌜ now (count .exit) ≡ valuesAfter one (transfersAnswer answer) (now (count .entry)) ⌝ }
-{
-    match answer {
-        Transferred::Count(n) => {
-            *count = [n as u64];
-            0
-        }
-        Transferred::Refused(r) => refusal_status(r),
-    }
-}
-
-fn put_size(answer: Pictured, count: &mut [u64; 1]) -> u64
-    ensures { λ r. ⌜ r ≡ status (pictureAnswer answer) ⌝ }
-    ensures { λ _. ⌜ now (count .exit) ≡ valuesAfter one (pictureAnswer answer) (now (count .entry)) ⌝ }
-{
-    match answer {
-        Pictured::Bytes(bytes) => {
-            *count = [bytes as u64];
-            0
-        }
-        Pictured::Refused(r) => refusal_status(r),
-    }
-}
-
-fn put_price(answer: Billed, amounts: &mut [u64; 4]) -> u64
-    ensures { λ r. ⌜ r ≡ status (billAnswer answer) ⌝ }
-    ensures { λ _. ⌜ now (amounts .exit) ≡ valuesAfter price (billAnswer answer) (now (amounts .entry)) ⌝ }
-{
-    match answer {
-        Billed::Priced { cost, bill } => {
-            *amounts = [cost, bill.storage, bill.transfer, bill.cpu];
-            0
-        }
-        Billed::Refused(r) => refusal_status(r),
-    }
-}
-
-fn put_reason(answer: Explanation, reason: &mut [u64; 1]) -> u64
-    ensures { λ r. ⌜ r ≡ status (standingAnswer answer) ⌝ }
-    ensures { λ _. ⌜ now (reason .exit) ≡ valuesAfter one (standingAnswer answer) (now (reason .entry)) ⌝ }
-{
-    match answer {
-        Explanation::Reason(why) => {
-            *reason = [reason_number(why) as u64];
-            0
-        }
-        Explanation::Refused(r) => refusal_status(r),
-    }
-}
-
-fn put_figures(answer: Counted, figures: &mut [u64; 6]) -> u64
-    ensures { λ r. ⌜ r ≡ status (censusAnswer answer) ⌝ }
-    ensures { λ _. ⌜ now (figures .exit) ≡ valuesAfter figureValues (censusAnswer answer) (now (figures .entry)) ⌝ }
-{
-    match answer {
-        Counted::Counts(c) => {
-            *figures = [
-                c.candidates,
-                c.breaking16,
-                c.breaking17only,
-                c.apartonly,
-                c.secure,
-                c.options,
-            ];
-            0
-        }
-        Counted::Refused(r) => refusal_status(r),
-    }
-}
-
-fn put_row(drawn: Drawn, answer: &mut [u64; 5], row: &mut [u8; 16]) -> u64
-    ensures { λ r. ⌜ r ≡ status (drawAnswer drawn) ⌝ }
-    ensures { λ _. ⌜ now (answer .exit) ≡ valuesAfter rowOrNone (drawAnswer drawn) (now (answer .entry)) ⌝ }
-    ensures { λ _. ⌜ now (row .exit) ≡ valuesAfter rowBytes (drawAnswer drawn) (now (row .entry)) ⌝ }
-{
-    let told = drawn.answer;
-    let found = drawn.row;
-    let placement = found.placement;
-    let bill: Bill = found.bill;
-    match told {
-        Answer::Found => {
-            *answer = [1, found.cost, bill.storage, bill.transfer, bill.cpu];
-            *row = placement;
-            0
-        }
-        Answer::Finished => {
-            *answer = [0, 0, 0, 0, 0];
-            *row = [0u8; 16];
-            0
-        }
-        Answer::Refused(r) => refusal_status(r),
-    }
-}
-
-fn put_extent(listed: Listed, extent: &mut [u64; 2]) -> u64
-    ensures { λ r. ⌜ r ≡ status (listAnswer listed) ⌝ }
-    ensures { λ _. ⌜ now (extent .exit) ≡ valuesAfter extentValues (listAnswer listed) (now (extent .entry)) ⌝ }
-{
-    match listed {
-        Listed::Rows(e) => {
-            *extent = [e.rows as u64, e.blocks as u64];
-            0
-        }
-        Listed::Refused(r) => refusal_status(r),
-    }
-}
 
 // Read: counts are of clouds, blocks and edges.
 #[no_mangle]
@@ -225,7 +50,7 @@ pub extern "C" fn panel_judge(description: &[u8], placement: &[u8; 16]) -> u64
     ensures { λ r. ⌜ r ≡ status (judgeCall (now (description .entry)) (now (placement .entry))) ⌝ }
 {
     let bytes = *placement;
-    let verdict = judging::judge(description, bytes);
+    let verdict: Verdict = judging::judge(description, bytes);
     verdict_status(verdict)
 }
 

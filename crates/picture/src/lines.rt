@@ -21,8 +21,8 @@ use description::workflow::block_count;
 use description::workflow::edge_at;
 use description::workflow::edge_count;
 use description::workflow::is_write;
-use security::placements::cloud_of;
-use security::placements::moves;
+use placements::cloud_of;
+use placements::moves;
 use sequences::wide;
 
 // Two blocks on one cloud, from the first to the second.

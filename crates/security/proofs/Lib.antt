@@ -2,6 +2,7 @@ pub mod Accepted
 pub mod Candidates
 pub mod Choices
 pub mod Deciding
+pub mod Equations
 pub mod HeldClouds
 pub mod Holding
 pub mod Judging

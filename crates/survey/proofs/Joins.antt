@@ -32,10 +32,10 @@ use Rattle.visit.proofs.Drawing.{Best}
 use Rattle.walk.specs.Walking.{seeAt, keepAt}
 use Rattle.walk.proofs.Whole.{seen-in-turn, kept-in-turn}
 use Rattle.security.specs.Masks.{padded}
-use Rattle.tables.specs.Building.{tablesOf}
-use Rattle.tables.proofs.Built.{weights, placements-are, placement-there}
-use Rattle.tables.proofs.Conflicting.{apart-is}
-use Rattle.tables.proofs.RowTest.{tests-same}
+use Rattle.table_entries.specs.Building.{tablesOf}
+use Rattle.table_entries.proofs.Built.{weights, placements-are, placement-there}
+use Rattle.table_entries.proofs.Conflicting.{apart-is}
+use Rattle.table_entries.proofs.RowTest.{tests-same}
 use Rattle.survey.specs.declared.Row.{Row}
 use Rattle.survey.specs.declared.Cursor.{Cursor}
 use Rattle.survey.specs.Answers.{figuresOf}

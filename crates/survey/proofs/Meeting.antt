@@ -7,8 +7,8 @@ use Rattle.description.specs.Invariants.{WellFormed}
 use Rattle.security.proofs.PermittedClouds.{masks-permitted, masks-choose}
 use Rattle.walk.specs.Walking.{seeAt, keepAt}
 use Rattle.walk.proofs.Whole.{seen-in-turn, kept-in-turn}
-use Rattle.tables.specs.Building.{tablesOf}
-use Rattle.tables.proofs.Built.{placements-by-masks}
+use Rattle.table_entries.specs.Building.{tablesOf}
+use Rattle.table_entries.proofs.Built.{placements-by-masks}
 use Rattle.survey.specs.Meeting.{MeetsCandidates}
 
 -- THE WALK MEETS EXACTLY THE CANDIDATES, each once, in order

@@ -29,7 +29,7 @@ use Rattle.walk.proofs.Whole.{kept-in-turn}
 use Rattle.sorting.specs.Rows.{flat, lower, pairs}
 use Rattle.sorting.proofs.Rows.{length-flat, pairs-flat, lower-is}
 use Rattle.security.specs.Masks.{padded}
-use Rattle.tables.specs.Building.{tablesOf}
+use Rattle.table_entries.specs.Building.{tablesOf}
 use Rattle.survey.specs.declared.Row.{Row}
 use Rattle.survey.specs.Joining.{Joined, met}
 use Rattle.survey.specs.Rows.{securePlacements, rowOf, earlier, stands, rows}

@@ -7,7 +7,7 @@ use Rattle.sequences.specs.Bits.{bitChoices}
 use Rattle.description.specs.Declarations.{Description}
 use Rattle.security.specs.Masks.{masksOf, blockMasks, Permitted, Chooses}
 use Rattle.walk.specs.Walking.{seeAt, keepAt}
-use Rattle.tables.specs.Building.{tablesOf}
+use Rattle.table_entries.specs.Building.{tablesOf}
 use Rattle.survey.specs.Surveys.{seenOf, keptOf}
 
 -- the placements of the blocks that the sixteen bytes permit

@@ -9,7 +9,7 @@ use Rattle.packing.specs.Packing.{pack, Low}
 use Rattle.weights.specs.Weights.{costLimit}
 use Rattle.visit.specs.Visits.{earlier}
 use Rattle.walk.specs.Walking.{seeAll, keepAll}
-use Rattle.tables.specs.Building.{tablesOf}
+use Rattle.table_entries.specs.Building.{tablesOf}
 use Rattle.survey.specs.declared.Cursor.{Cursor}
 use Rattle.survey.specs.Rows.{isPast}
 

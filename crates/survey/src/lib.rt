@@ -18,7 +18,7 @@ use description::words::Words;
 use description::workflow::block_count;
 use packing::floor_place;
 use packing::unpacked;
-use security::masks::Masks;
+use soundness::masks::Masks;
 use visit::BEST_COST;
 use visit::BEST_PLACE;
 use visit::COUNTING;

@@ -2,14 +2,14 @@
 ghost use mathlib.Core.Path.{_≡_};
 ghost use lib.ListN.{length, replicate};
 ghost use Rattle.description.specs.Meaning.{describes};
-ghost use Rattle.tables.specs.Building.{ownOf};
+ghost use Rattle.table_entries.specs.Building.{ownOf};
 use costs::terms::block_term;
 use description::words::MOST_CLOUDS;
 use description::words::Words;
 use description::workflow::block_count;
 use description::workflow::cloud_count;
-use security::masks::Masks;
-use security::masks::POSITIONS;
+use soundness::masks::Masks;
+use soundness::masks::POSITIONS;
 
 // The masks of the blocks, as they were worked out.
 pub fn fill_masks(masks: &Masks, a: &mut [u8])

@@ -19,12 +19,12 @@ use description::workflow::Refusal;
 use description::workflow::edge_at;
 use description::workflow::edge_count;
 use description::workflow::is_write;
+use placements::cloud_of;
+use placements::moves;
 use security::answers::Verdict;
-use security::masks::Masks;
-use security::placements::cloud_of;
-use security::placements::moves;
-use security::placements::verdict;
 use sequences::wide;
+use soundness::masks::Masks;
+use verdicts::verdict;
 
 pub enum Transferred {
     Count(usize),

@@ -23,8 +23,8 @@ use description::workflow::Refusal;
 use description::workflow::block_count;
 use judging::acceptance::accept_with_masks;
 use judging::answers::Admission;
-use security::masks::Masks;
-use security::masks::POSITIONS;
+use soundness::masks::Masks;
+use soundness::masks::POSITIONS;
 
 // Lent memory is too short; the place says how much is needed.
 const SHORT_BUFFER: u8 = 16;

@@ -1,6 +1,6 @@
 -- What Bill answers is told.
-use Rattle.panel.specs.Values.{price}
-use Rattle.panel.proofs.Told.{told}
+use Rattle.statuses.specs.Values.{price}
+use Rattle.statuses.proofs.Told.{told}
 use borrow.Author.Needs.{needs}
 use Rattle.panel.proofs.panel_bill.Statement.{statement}
 use Rattle.panel.proofs.panel_bill.Tie as tie

@@ -1,6 +1,6 @@
 -- What Census answers is told.
-use Rattle.panel.specs.Values.{figures}
-use Rattle.panel.proofs.Told.{told}
+use Rattle.statuses.specs.Values.{figures}
+use Rattle.statuses.proofs.Told.{told}
 use borrow.Author.Needs.{needs}
 use Rattle.panel.proofs.panel_census.Statement.{statement}
 use Rattle.panel.proofs.panel_census.Tie as tie

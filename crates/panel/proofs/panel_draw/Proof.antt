@@ -1,6 +1,6 @@
 -- What Draw answers is told.
-use Rattle.panel.specs.Values.{rowOrNone, rowBytes}
-use Rattle.panel.proofs.Told.{told}
+use Rattle.statuses.specs.Values.{rowOrNone, rowBytes}
+use Rattle.statuses.proofs.Told.{told}
 use borrow.Author.Needs.{needs}
 use Rattle.panel.proofs.panel_draw.Statement.{statement}
 use Rattle.panel.proofs.panel_draw.Tie as tie

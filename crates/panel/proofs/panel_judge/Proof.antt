@@ -1,6 +1,6 @@
 -- What Judge answers is told.
 use mathlib.Core.Path.{ap, _∙_}
-use Rattle.panel.specs.Statuses.{status}
+use Rattle.statuses.specs.Statuses.{status}
 use borrow.Author.Needs.{needs}
 use Rattle.panel.proofs.panel_judge.Statement.{statement}
 use Rattle.panel.proofs.panel_judge.Tie as tie

@@ -1,6 +1,6 @@
 -- What List answers is told, and its words stay as it left them.
-use Rattle.panel.specs.Values.{extent}
-use Rattle.panel.proofs.Told.{told}
+use Rattle.statuses.specs.Values.{extent}
+use Rattle.statuses.proofs.Told.{told}
 use borrow.Author.Needs.{needs}
 use Rattle.panel.proofs.panel_list.Statement.{statement}
 use Rattle.panel.proofs.panel_list.Tie as tie

@@ -3,8 +3,8 @@ use mathlib.Core.Path.{ap, _∙_}
 use mathlib.Core.List.{List}
 use Prim.Native.Nat.{ℕ}
 use Rattle.judging.specs.Calls.{masksCall}
-use Rattle.panel.specs.Statuses.{status}
-use Rattle.panel.proofs.Told.{status-of}
+use Rattle.statuses.specs.Statuses.{status}
+use Rattle.statuses.proofs.Told.{status-of}
 use borrow.Author.Needs.{needs}
 use Rattle.panel.proofs.panel_masks.Statement.{statement}
 use Rattle.panel.proofs.panel_masks.Tie as tie

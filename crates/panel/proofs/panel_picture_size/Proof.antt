@@ -1,6 +1,6 @@
 -- What Picture size answers is told.
-use Rattle.panel.specs.Values.{one}
-use Rattle.panel.proofs.Told.{told}
+use Rattle.statuses.specs.Values.{one}
+use Rattle.statuses.proofs.Told.{told}
 use borrow.Author.Needs.{needs}
 use Rattle.panel.proofs.panel_picture_size.Statement.{statement}
 use Rattle.panel.proofs.panel_picture_size.Tie as tie

@@ -1,6 +1,6 @@
 -- What Read answers is told.
-use Rattle.panel.specs.Values.{counts}
-use Rattle.panel.proofs.Told.{told}
+use Rattle.statuses.specs.Values.{counts}
+use Rattle.statuses.proofs.Told.{told}
 use borrow.Author.Needs.{needs}
 use Rattle.panel.proofs.panel_read.Statement.{statement}
 use Rattle.panel.proofs.panel_read.Tie as tie

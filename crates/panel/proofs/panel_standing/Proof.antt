@@ -1,6 +1,6 @@
 -- What Standing answers is told.
-use Rattle.panel.specs.Values.{one}
-use Rattle.panel.proofs.Told.{told}
+use Rattle.statuses.specs.Values.{one}
+use Rattle.statuses.proofs.Told.{told}
 use borrow.Author.Needs.{needs}
 use Rattle.panel.proofs.panel_standing.Statement.{statement}
 use Rattle.panel.proofs.panel_standing.Tie as tie

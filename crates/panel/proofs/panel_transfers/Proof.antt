@@ -2,8 +2,8 @@
 use mathlib.Core.Path.{_∙_}
 use lib.ListN.{length}
 use Rattle.judging.specs.Calls.{transfersCall}
-use Rattle.panel.specs.Values.{one}
-use Rattle.panel.proofs.Told.{told, status-of, values-of}
+use Rattle.statuses.specs.Values.{one}
+use Rattle.statuses.proofs.Told.{told, status-of, values-of}
 use borrow.Author.Needs.{needs}
 use Rattle.panel.proofs.panel_transfers.Statement.{statement}
 use Rattle.panel.proofs.panel_transfers.Tie as tie

@@ -3,7 +3,7 @@ use mathlib.Core.Path.{refl, sym, subst₂, _∙_}
 use Rattle.description.specs.Meaning.{describes}
 use Rattle.visit.specs.Tables.{Ready}
 use Rattle.walk.specs.Walking.{seeAll, keepAll}
-use Rattle.tables.proofs.Built.{ready}
+use Rattle.table_entries.proofs.Built.{ready}
 use borrow.Author.Needs.{needs}
 use Rattle.survey.proofs.walk_over.Statement.{statement}
 use Rattle.survey.proofs.walk_over.Tie as tie

@@ -1,0 +1,2 @@
+pub mod CommandBytes
+pub mod Steps

@@ -1,0 +1,15 @@
+pub mod Built
+pub mod Conflicting
+pub mod EdgeSides
+pub mod Ends
+pub mod Equations
+pub mod Exchanging
+pub mod Filling
+pub mod Groups
+pub mod Laying
+pub mod Noting
+pub mod Ordering
+pub mod Paired
+pub mod Places
+pub mod RowTest
+pub mod Serving
