@@ -1,4 +1,4 @@
--- What the code sums up is the cost; a secure placement names clouds that there can be.
+-- What the code adds up is the cost; a secure placement has only cloud numbers below 8.
 use Prim.Native.Nat.{ℕ, _+_}
 use native.Mathlib.Decide.{decLt}
 use native.Mathlib.Omega.{arith}

@@ -94,7 +94,8 @@ fn edges_cost(w: &Words, placement: [u8; 16]) -> u64
 
 // All blocks where they stand: storage of the data, computing of the services.
 fn blocks_cost(w: &Words, placement: [u8; 16]) -> u64
-    ensures { λ r. ⌜ r ≡ sum (map (λ b. blockTerm (describes (now (w .entry))) b (getD placement b 0)) (below (length (describes (now (w .entry)) .blocks)))) ⌝ }
+    ensures { λ r. ⌜ r
+        ≡ sum (map (λ b. blockTerm (describes (now (w .entry))) b (getD placement b 0)) (below (length (describes (now (w .entry)) .blocks)))) ⌝ }
     ensures { λ r. ⌜ r ≤ 16 * 2 ^ 49 ⌝ }
 {
     let n = block_count(w);

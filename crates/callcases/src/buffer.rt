@@ -1,4 +1,4 @@
-// The two large buffers: for the description that is read, and for the output that waits to be written.
+// The two large buffers: one for the description, one for output that is not yet written.
 ghost use Prim.Native.Nat.{_≤_};
 ghost use mathlib.Core.Path.{_≡_};
 ghost use lib.ListN.{length, take};
@@ -9,7 +9,7 @@ pub const SIZE: usize = 65536;
 // The most bytes of a lent buffer.
 pub const MOST_LENT: usize = 2048;
 
-// More bytes than the longest line has, that of a lent buffer: two digits for each of its bytes.
+// More bytes than the longest line has, which is that of a lent buffer with two digits a byte.
 pub const LINE: usize = 8192;
 
 pub type Buffer = [u8; SIZE];

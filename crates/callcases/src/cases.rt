@@ -1,4 +1,4 @@
-// The cases: the call that a letter stands for, with the operands that follow the description.
+// The cases: the call that a letter names, with the operands that follow the description.
 ghost use Prim.Native.Nat.{_+_, _≤_};
 ghost use mathlib.Core.Path.{_≡_};
 ghost use lib.ListN.{length};
@@ -24,14 +24,14 @@ use crate::output::put_hex;
 use sequences::wide;
 use survey::Cursor;
 
-// The offset behind a case's line in the output, or that it is no case, or that a read failed.
+// The offset after the case's line in the output; or it is no case; or a read failed.
 pub enum Reply {
     Line(usize),
     Bad,
     Failed,
 }
 
-// The reply to a case of which a part is missing.
+// The reply if a part of the case is missing.
 pub fn without(part: Part) -> Reply
     ensures { λ r. ⌜ Within r ⌝ }
 {
@@ -41,7 +41,7 @@ pub fn without(part: Part) -> Reply
     }
 }
 
-// A letter has a function of its own, which reads the operands and puts the line.
+// Each letter has its own function, which reads the operands and puts the line.
 pub fn answer(letter: u8, description: &[u8], out: &mut Buffer, at: usize) -> Reply
     requires { ⌜ at + line ≤ size ⌝ }
     ensures { λ r. ⌜ Within r ⌝ }
@@ -59,7 +59,7 @@ pub fn answer(letter: u8, description: &[u8], out: &mut Buffer, at: usize) -> Re
     }
 }
 
-// The letters that came later.
+// More letters, so that no `match` gets too long.
 fn answer_later(letter: u8, description: &[u8], out: &mut Buffer, at: usize) -> Reply
     requires { ⌜ at + line ≤ size ⌝ }
     ensures { λ r. ⌜ Within r ⌝ }
@@ -177,7 +177,7 @@ fn answer_lending(description: &[u8], out: &mut Buffer, at: usize, call: Lending
     Reply::Line(put_lending(out, at, description, placement, call, count))
 }
 
-// A buffer to lend, full of a byte by which what the call leaves alone shows.
+// A buffer to lend, filled with a byte that shows what the call did not touch.
 fn untouched() -> [u8; MOST_LENT]
     ensures { λ r. ⌜ mostLent ≡ length r ⌝ }
 {

@@ -16,13 +16,13 @@ use cases::Reply;
 use input::Part;
 use standard_input::Input;
 
-// What a case leaves: the offset behind the output that waits to be written, or the end.
+// What to do after a case: go on, with the offset after the output that is not yet written, or end.
 enum Turn {
     Next(usize),
     End,
 }
 
-// Says that what was read is no case, and ends.
+// Reports that what was read is no case, and ends.
 fn bad_case(out: &mut Buffer, at: usize) -> Turn
     requires { ⌜ at + line ≤ size ⌝ }
     ensures { λ r. ⌜ Roomy r ⌝ }
@@ -32,7 +32,7 @@ fn bad_case(out: &mut Buffer, at: usize) -> Turn
     Turn::End
 }
 
-// Writes what waits where another line might not fit behind it. A write that fails is the end.
+// Writes the output if another line might not fit after it. If a write fails, the program ends.
 fn make_room(out: &Buffer, at: usize) -> Turn
     requires { ⌜ at ≤ size ⌝ }
     ensures { λ r. ⌜ Roomy r ⌝ }
@@ -58,7 +58,7 @@ fn after_reply(out: &mut Buffer, at: usize, reply: Reply) -> Turn
     }
 }
 
-// Reads the rest of a case, from its description of so many bytes on, and answers it.
+// Reads the rest of a case, beginning with its description of `count` bytes, and answers it.
 fn answer_rest(space: &mut Buffer, letter: u8, count: usize, out: &mut Buffer, at: usize) -> Reply
     requires { ⌜ count ≤ size ⌝ }
     requires { ⌜ at + line ≤ size ⌝ }
@@ -71,8 +71,8 @@ fn answer_rest(space: &mut Buffer, letter: u8, count: usize, out: &mut Buffer, a
     cases::answer(letter, front(space, count), out, at)
 }
 
-// Reads one case and answers it. The input may end only where a case would begin. After a read that failed nothing more is written, not even what
-// waits: output that ends without an error line is the answer to all cases.
+// Reads one case and answers it. The input may end only before a case. After a failed read nothing more is written, not even output that
+// is ready: so output without an error line answers all cases.
 fn next_case(space: &mut Buffer, out: &mut Buffer, at: usize) -> Turn
     requires { ⌜ at + line ≤ size ⌝ }
     ensures { λ r. ⌜ Roomy r ⌝ }
@@ -93,8 +93,7 @@ fn next_case(space: &mut Buffer, out: &mut Buffer, at: usize) -> Turn
     after_reply(out, at, reply)
 }
 
-// A proved loop has to end, and nothing says that the input does. So the loop counts its turns down,
-// from a number that no input uses up.
+// A proved loop has to end, but nothing says that the input does. So the loop counts its turns down, from a number that no input reaches.
 fn answer_all(space: &mut Buffer, out: &mut Buffer) {
     let mut at = 0;
     let mut turns = u64::MAX;

@@ -1,5 +1,5 @@
-// Standard output, gathered in a buffer so that many lines take one write. What a `put` function puts starts
-// at an offset of the buffer, and its answer is the offset behind it.
+// Standard output, collected in a buffer so that many lines take one write. A `put` function starts at an offset of the buffer and answers
+// the offset after what it put.
 ghost use Prim.Native.Nat.{_+_, _*_, _≤_, _<_};
 ghost use mathlib.Core.Path.{_≡_};
 ghost use lib.ListN.{length};
@@ -9,7 +9,7 @@ use crate::buffer::Buffer;
 use crate::buffer::front;
 use libc::STDOUT_FILENO;
 
-// Writes what lies before the offset, and answers whether all of it was taken.
+// Writes the bytes before the offset, and answers whether all were written.
 pub fn flush(out: &[u8], at: usize) -> bool
     requires { ⌜ at ≤ length (now out) ⌝ }
 {
@@ -56,12 +56,12 @@ pub fn put_clouds(out: &mut Buffer, at: usize, clouds: [u8; 16]) -> usize
     at + i
 }
 
-// No description has as many as ten clouds: a number that is none of a cloud's would show as a question mark.
+// No description has ten clouds: a larger number shows as a question mark.
 fn cloud_digit(cloud: u8) -> u8 {
     if cloud < 10 { b'0' + cloud } else { b'?' }
 }
 
-// Puts a space and the bytes in hexadecimal, and nothing where there are none.
+// Puts a space and the bytes in hexadecimal; nothing if there are none.
 pub fn put_hex(out: &mut Buffer, at: usize, bytes: &[u8]) -> usize
     requires { ⌜ at + 1 + 2 * length (now bytes) ≤ size ⌝ }
     ensures { λ r. ⌜ r ≤ at + 1 + 2 * length (now (bytes .entry)) ⌝ }

@@ -1,4 +1,4 @@
--- What a C program can rely on when it takes a status apart: 0 is no refusal, and of a refusal nothing is lost.
+-- What a C program can rely on when it takes a status apart: 0 is no refusal, and number and place of a refusal can be read off.
 use Prim.Native.Nat.{ℕ, _/_, _%_, _<_}
 use mathlib.Core.Path.{_≡_}
 use mathlib.Core.List.{List}
@@ -18,7 +18,7 @@ Readable (ok a) = status (ok a) ≡ 0
 Readable (refused number place) =
     (0 < refusalStatus number place) × (refusalStatus number place % 256 ≡ number) × (refusalStatus number place / 256 ≡ place)
 
--- so it is with every call
+-- for every call
 pub record NothingLost (s : List ℕ) : Type 0 where
   pub read : Readable (readCall s)
   pub masks : Readable (masksCall s)

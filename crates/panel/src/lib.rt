@@ -10,7 +10,8 @@ ghost use Rattle.standing.specs.Reasons.{standingCall};
 ghost use Rattle.lister.specs.Calls.{censusCall, drawCall};
 ghost use Rattle.whole_list.specs.WholeList.{capacity, listCall, rowsAfter, scratchAfter};
 ghost use Rattle.statuses.specs.Statuses.{status, valuesAfter};
-ghost use Rattle.statuses.specs.Values.{counts as countValues, transferCount, byteCount, figures as figureValues, rowOrNone, rowBytes, price, extent as extentValues, one};
+ghost use Rattle.statuses.specs.Values.{counts as countValues, transferCount, byteCount, figures as figureValues};
+ghost use Rattle.statuses.specs.Values.{rowOrNone, rowBytes, price, extent as extentValues, one};
 use security::answers::Verdict;
 use statuses::masked_status;
 use statuses::put_count;
@@ -44,7 +45,7 @@ pub extern "C" fn panel_masks(description: &[u8], masks: &mut [u8; 16]) -> u64
     masked_status(answer)
 }
 
-// Judge: secure where the status is 0.
+// Judge: secure if the status is 0.
 #[no_mangle]
 pub extern "C" fn panel_judge(description: &[u8], placement: &[u8; 16]) -> u64
     ensures { λ r. ⌜ r ≡ status (judgeCall (now (description .entry)) (now (placement .entry))) ⌝ }
@@ -63,8 +64,10 @@ pub extern "C" fn panel_transfers(
     count: &mut [u64; 1],
 ) -> u64
     ensures { λ r. ⌜ r ≡ status (transfersCall (now (description .entry)) (now (placement .entry)) (length (now (buffer .entry)))) ⌝ }
-    ensures { λ _. ⌜ now (buffer .exit) ≡ bufferAfter (transfersCall (now (description .entry)) (now (placement .entry)) (length (now (buffer .entry)))) (now (buffer .entry)) ⌝ }
-    ensures { λ _. ⌜ now (count .exit) ≡ valuesAfter transferCount (transfersCall (now (description .entry)) (now (placement .entry)) (length (now (buffer .entry)))) (now (count .entry)) ⌝ }
+    ensures { λ _. ⌜ now (buffer .exit)
+        ≡ bufferAfter (transfersCall (now (description .entry)) (now (placement .entry)) (length (now (buffer .entry)))) (now (buffer .entry)) ⌝ }
+    ensures { λ _. ⌜ now (count .exit)
+        ≡ valuesAfter transferCount (transfersCall (now (description .entry)) (now (placement .entry)) (length (now (buffer .entry)))) (now (count .entry)) ⌝ }
 {
     let bytes = *placement;
     let answer = judging::transfers(description, bytes, buffer);
@@ -80,8 +83,10 @@ pub extern "C" fn panel_picture(
     count: &mut [u64; 1],
 ) -> u64
     ensures { λ r. ⌜ r ≡ status (pictureCall (now (description .entry)) (now (placement .entry)) (length (now (buffer .entry)))) ⌝ }
-    ensures { λ _. ⌜ now (buffer .exit) ≡ pictureAfter (pictureCall (now (description .entry)) (now (placement .entry)) (length (now (buffer .entry)))) (now (buffer .entry)) ⌝ }
-    ensures { λ _. ⌜ now (count .exit) ≡ valuesAfter byteCount (pictureCall (now (description .entry)) (now (placement .entry)) (length (now (buffer .entry)))) (now (count .entry)) ⌝ }
+    ensures { λ _. ⌜ now (buffer .exit)
+        ≡ pictureAfter (pictureCall (now (description .entry)) (now (placement .entry)) (length (now (buffer .entry)))) (now (buffer .entry)) ⌝ }
+    ensures { λ _. ⌜ now (count .exit)
+        ≡ valuesAfter byteCount (pictureCall (now (description .entry)) (now (placement .entry)) (length (now (buffer .entry)))) (now (count .entry)) ⌝ }
 {
     let bytes = *placement;
     let answer = picture::picture(description, bytes, buffer);
@@ -154,8 +159,12 @@ pub extern "C" fn panel_draw(
     row: &mut [u8; 16],
 ) -> u64
     ensures { λ r. ⌜ r ≡ status (drawCall (now (description .entry)) (record { start = start; cost = cost; placement = now (placement .entry) })) ⌝ }
-    ensures { λ _. ⌜ now (answer .exit) ≡ valuesAfter rowOrNone (drawCall (now (description .entry)) (record { start = start; cost = cost; placement = now (placement .entry) })) (now (answer .entry)) ⌝ }
-    ensures { λ _. ⌜ now (row .exit) ≡ valuesAfter rowBytes (drawCall (now (description .entry)) (record { start = start; cost = cost; placement = now (placement .entry) })) (now (row .entry)) ⌝ }
+    ensures { λ _. ⌜ now (answer .exit)
+        ≡ valuesAfter rowOrNone (drawCall (now (description .entry)) (record { start = start; cost = cost; placement = now (placement .entry) }))
+        (now (answer .entry)) ⌝ }
+    ensures { λ _. ⌜ now (row .exit)
+        ≡ valuesAfter rowBytes (drawCall (now (description .entry)) (record { start = start; cost = cost; placement = now (placement .entry) }))
+        (now (row .entry)) ⌝ }
 {
     let bytes = *placement;
     let cursor = Cursor {
@@ -167,7 +176,7 @@ pub extern "C" fn panel_draw(
     put_row(drawn, answer, row)
 }
 
-// List: the rows in lent words, five for each, and how many rows there are and blocks each has.
+// List: the rows in lent words, five for each row; then how many rows there are, and how many blocks.
 #[no_mangle]
 pub extern "C" fn panel_list(
     description: &[u8],
@@ -176,9 +185,13 @@ pub extern "C" fn panel_list(
     extent: &mut [u64; 2],
 ) -> u64
     ensures { λ r. ⌜ r ≡ status (listCall (now (description .entry)) (capacity (length (now (rows .entry))) (length (now (scratch .entry))))) ⌝ }
-    ensures { λ _. ⌜ now (rows .exit) ≡ rowsAfter (now (description .entry)) (capacity (length (now (rows .entry))) (length (now (scratch .entry)))) (now (rows .entry)) ⌝ }
-    ensures { λ _. ⌜ now (scratch .exit) ≡ scratchAfter (now (description .entry)) (capacity (length (now (rows .entry))) (length (now (scratch .entry)))) (now (scratch .entry)) ⌝ }
-    ensures { λ _. ⌜ now (extent .exit) ≡ valuesAfter extentValues (listCall (now (description .entry)) (capacity (length (now (rows .entry))) (length (now (scratch .entry))))) (now (extent .entry)) ⌝ }
+    ensures { λ _. ⌜ now (rows .exit)
+        ≡ rowsAfter (now (description .entry)) (capacity (length (now (rows .entry))) (length (now (scratch .entry)))) (now (rows .entry)) ⌝ }
+    ensures { λ _. ⌜ now (scratch .exit)
+        ≡ scratchAfter (now (description .entry)) (capacity (length (now (rows .entry))) (length (now (scratch .entry)))) (now (scratch .entry)) ⌝ }
+    ensures { λ _. ⌜ now (extent .exit)
+        ≡ valuesAfter extentValues (listCall (now (description .entry)) (capacity (length (now (rows .entry))) (length (now (scratch .entry)))))
+        (now (extent .entry)) ⌝ }
 {
     let listed = whole_list::list(description, rows, scratch);
     put_extent(listed, extent)

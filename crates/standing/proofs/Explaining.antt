@@ -28,7 +28,7 @@ use Rattle.sequences.proofs.Results.{ok-inj, andThen-ok, andThen-refused}
 use Rattle.standing.specs.Reasons.{reasonOfBlock, reason, standingCall}
 use Rattle.standing.specs.Statements.{Declared, Explained, Explains13}
 
--- a pin is not kept exactly if it is to another cloud
+-- a pin does not allow a cloud exactly if it is to another one
 pin-elsewhere : (pin : Pin) (k : ℕ) → (pinAllows pin k ≡ false) ↔ ((c : ℕ) × (pin ≡ To c) × (c ≡ k → ⊥))
 pin-elsewhere Free k = (λ f. absurd (true≢false f), λ (c, e, _). absurd (true≢false (sym (ap isPinned e))))
 pin-elsewhere (To c) k = (
@@ -134,7 +134,7 @@ answered-by s b k n e =
 never-read : (r : Result Description) (b : ℕ) → RefusalWithin 12 decidingBytes r → r ≡ refused 13 b → ⊥
 never-read r b within e = let (_, low, _) = subst (RefusalWithin 12 decidingBytes) e within in omega (arith, low)
 
--- 13 STANDS AT THE LOWEST POSITION THAT HAS A REASON
+-- 13 IS AT THE LOWEST POSITION THAT HAS A REASON
 pub explains-13 : (s p : List ℕ) → Explains13 s p
 explains-13 s p b = (
   λ e.

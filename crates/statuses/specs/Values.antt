@@ -35,7 +35,7 @@ price p = p .0 ∷ p .1 .storage ∷ p .1 .transfer ∷ p .1 .cpu ∷ []
 abbrev pub figures : Census → List ℕ
 figures c = c .candidates ∷ c .breaking16 ∷ c .breaking17only ∷ c .apartonly ∷ c .secure ∷ c .options ∷ []
 
--- Draw: 1, and the cost of a row with the three amounts of its bill; or zeros where there is none
+-- Draw: 1, and the cost of a row with the three amounts of its bill; or zeros if there is none
 abbrev pub rowOrNone : Option Row → List ℕ
 rowOrNone (some row) = 1 ∷ row .cost ∷ row .bill .storage ∷ row .bill .transfer ∷ row .bill .cpu ∷ []
 rowOrNone none = 0 ∷ 0 ∷ 0 ∷ 0 ∷ 0 ∷ []

@@ -1,5 +1,5 @@
-// What the answers of calls are for C: a status, 0 or a refusal's number and place in one word, and values in lent arrays, which a refusal
-// leaves as they were.
+// The answers of calls for C: a status, which is 0 or a refusal's number and place in one word, and values in lent arrays, which a refusal
+// does not change.
 ghost use mathlib.Core.Path.{_≡_};
 ghost use Prim.Native.Nat.{min};
 ghost use Rattle.judging.specs.Answers.{readAnswer, maskedAnswer};
@@ -30,7 +30,7 @@ use whole_list::Listed;
 // A place has 56 bits of a status, and this is the highest of them: 2^56 - 1.
 const HIGHEST_PLACE: usize = 72057594037927935;
 
-// A place that does not fit is the highest that does.
+// A place that does not fit becomes the highest that does.
 fn kept_place(place: usize) -> u64
     ensures { λ r. ⌜ r ≡ min place highestPlace ⌝ }
 {

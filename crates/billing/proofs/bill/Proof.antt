@@ -1,4 +1,4 @@
--- The price of what is secure; a refusal is passed on.
+-- The price of a secure placement; a refusal is passed on.
 use Prim.Native.Nat.{ℕ}
 use mathlib.Core.Path.{_≡_, sym, ap, ap₂, _∙_}
 use lib.ListN.{length}

@@ -1,4 +1,4 @@
--- Each return by the test that led there; what a moved datum costs goes by the clouds of its service and of itself.
+-- Each return follows from the test that leads there; what a moved datum costs depends on the clouds of its service and of itself.
 use Prim.Native.Nat.{zero-le}
 use mathlib.Core.Path.{_≡_, sym, ap, ap₂, _∙_}
 use lib.ListN.{getD}

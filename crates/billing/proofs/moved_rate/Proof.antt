@@ -1,4 +1,4 @@
--- By the way of the edge.
+-- By the direction of the edge.
 use mathlib.Core.Path.{sym, _∙_}
 use borrow.Author.Needs.{needs}
 use Rattle.billing.proofs.moved_rate.Statement.{statement}

@@ -1,4 +1,4 @@
--- What Bill answers is told.
+-- The status and the values are those of the answer of Bill.
 use Rattle.statuses.specs.Values.{price}
 use Rattle.statuses.proofs.Told.{told}
 use borrow.Author.Needs.{needs}

@@ -1,4 +1,4 @@
--- What Census answers is told.
+-- The status and the values are those of the answer of Census.
 use Rattle.statuses.specs.Values.{figures}
 use Rattle.statuses.proofs.Told.{told}
 use borrow.Author.Needs.{needs}

@@ -1,4 +1,4 @@
--- What Draw answers is told.
+-- The status and the values are those of the answer of Draw.
 use Rattle.statuses.specs.Values.{rowOrNone, rowBytes}
 use Rattle.statuses.proofs.Told.{told}
 use borrow.Author.Needs.{needs}

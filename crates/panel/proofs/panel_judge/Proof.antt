@@ -1,4 +1,4 @@
--- What Judge answers is told.
+-- The status and the values are those of the answer of Judge.
 use mathlib.Core.Path.{ap, _∙_}
 use Rattle.statuses.specs.Statuses.{status}
 use borrow.Author.Needs.{needs}

@@ -1,4 +1,4 @@
--- What List answers is told, and its words stay as it left them.
+-- The status and the values are those of the answer of List; its words are as the call left them.
 use Rattle.statuses.specs.Values.{extent}
 use Rattle.statuses.proofs.Told.{told}
 use borrow.Author.Needs.{needs}
@@ -19,8 +19,10 @@ same-length-2 c = search needs
 
 returns : tie.Need-returns
 returns c =
-    let l = c .before .before .before .before .before .before .list .ensures in
-    let (h, k) = told extent (c .before .before .before .before .before .before .before .before .before .before .before .before .args .extent .now) (l .0) (c .put-extent .ensures) in
+    let call = c .before .before .before .before .before .before in
+    let l = call .list .ensures in
+    let s = call .before .before .before .before .before .before .args in
+    let (h, k) = told extent (s .extent .now) (l .0) (c .put-extent .ensures) in
     (h, (l .1 .0, (l .1 .1, k)))
 
 pub panel-list-spec : {M : Type 1} → statement M

@@ -1,4 +1,4 @@
--- What Masks answers is told, and its bytes stay as it left them.
+-- The status and the values are those of the answer of Masks; its bytes are as the call left them.
 use mathlib.Core.Path.{ap, _∙_}
 use mathlib.Core.List.{List}
 use Prim.Native.Nat.{ℕ}

@@ -1,4 +1,4 @@
--- What Picture size answers is told.
+-- The status and the values are those of the answer of Picture size.
 use Rattle.statuses.specs.Values.{one}
 use Rattle.statuses.proofs.Told.{told}
 use borrow.Author.Needs.{needs}

@@ -1,4 +1,4 @@
--- What Read answers is told.
+-- The status and the values are those of the answer of Read.
 use Rattle.statuses.specs.Values.{counts}
 use Rattle.statuses.proofs.Told.{told}
 use borrow.Author.Needs.{needs}

@@ -1,4 +1,4 @@
--- What Standing answers is told.
+-- The status and the values are those of the answer of Standing.
 use Rattle.statuses.specs.Values.{one}
 use Rattle.statuses.proofs.Told.{told}
 use borrow.Author.Needs.{needs}

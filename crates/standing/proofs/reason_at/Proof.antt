@@ -1,4 +1,4 @@
--- Each return by the test that led there.
+-- Each return follows from the test that leads there.
 use Prim.Native.Nat.{_≤_, _<_}
 use native.Mathlib.Omega.{arith}
 use lib.ListN.{length}

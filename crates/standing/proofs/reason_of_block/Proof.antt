@@ -1,4 +1,4 @@
--- Each return by the tests that led there.
+-- Each return follows from the tests that lead there.
 use Prim.Native.Nat.{_≤_, _<_}
 use native.Mathlib.Omega.{arith}
 use mathlib.Core.Path.{_≡_, sym, ap, ap₂, _∙_}
@@ -61,7 +61,7 @@ returns-2 c =
 pin-allows-requires : tie.Need-pin-allows-requires
 pin-allows-requires c κs = search needs
 
--- what was tested of the pin
+-- the test of the pin
 allowed : (c : tie.After-pin-allows) → let a = c .before .before .before .before .before .before .before .before .before .args in
     c .pin-allows .result ≡ pinAllows (block (describes (a .w .now)) (a .b) .pin) (a .k)
 allowed c =

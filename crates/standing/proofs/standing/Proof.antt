@@ -1,4 +1,4 @@
--- The reason of what is accepted; a refusal is passed on.
+-- The reason for an accepted description; a refusal is passed on.
 use Prim.Native.Nat.{ℕ}
 use mathlib.Core.Path.{sym, ap, _∙_}
 use borrow.Author.Needs.{needs}

@@ -22,7 +22,8 @@ returns c =
 
 returns-2 : tie.Need-returns-2
 returns-2 c =
-    told counts (c .before .before .before .before .args .counts .now) (sym (ap readAnswer (c .before .before .answer2 .given .1))) (c .refusal-status .ensures, refl)
+    let same = sym (ap readAnswer (c .before .before .answer2 .given .1)) in
+    told counts (c .before .before .before .before .args .counts .now) same (c .refusal-status .ensures, refl)
 
 pub put-counts-spec : {M : Type 1} → statement M
 put-counts-spec =

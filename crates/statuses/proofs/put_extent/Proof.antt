@@ -22,7 +22,8 @@ returns c =
 
 returns-2 : tie.Need-returns-2
 returns-2 c =
-    told extent (c .before .before .before .before .args .extent .now) (sym (ap listAnswer (c .before .before .listed2 .given .1))) (c .refusal-status .ensures, refl)
+    let same = sym (ap listAnswer (c .before .before .listed2 .given .1)) in
+    told extent (c .before .before .before .before .args .extent .now) same (c .refusal-status .ensures, refl)
 
 pub put-extent-spec : {M : Type 1} → statement M
 put-extent-spec =

@@ -22,7 +22,8 @@ returns c =
 
 returns-2 : tie.Need-returns-2
 returns-2 c =
-    told figures (c .before .before .before .before .args .figures .now) (sym (ap censusAnswer (c .before .before .answer2 .given .1))) (c .refusal-status .ensures, refl)
+    let same = sym (ap censusAnswer (c .before .before .answer2 .given .1)) in
+    told figures (c .before .before .before .before .args .figures .now) same (c .refusal-status .ensures, refl)
 
 pub put-figures-spec : {M : Type 1} → statement M
 put-figures-spec =

@@ -22,7 +22,8 @@ returns c =
 
 returns-2 : tie.Need-returns-2
 returns-2 c =
-    told price (c .before .before .before .before .args .amounts .now) (sym (ap billAnswer (c .before .before .answer2 .given .1))) (c .refusal-status .ensures, refl)
+    let same = sym (ap billAnswer (c .before .before .answer2 .given .1)) in
+    told price (c .before .before .before .before .args .amounts .now) same (c .refusal-status .ensures, refl)
 
 pub put-price-spec : {M : Type 1} → statement M
 put-price-spec =

@@ -31,7 +31,8 @@ returns c =
 
 returns-2 : tie.Need-returns-2
 returns-2 c =
-    told one (c .before .before .before .before .args .reason .now) (sym (ap standingAnswer (c .before .before .answer2 .given .1))) (c .refusal-status .ensures, refl)
+    let same = sym (ap standingAnswer (c .before .before .answer2 .given .1)) in
+    told one (c .before .before .before .before .args .reason .now) same (c .refusal-status .ensures, refl)
 
 pub put-reason-spec : {M : Type 1} → statement M
 put-reason-spec =

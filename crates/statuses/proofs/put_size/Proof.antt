@@ -22,7 +22,8 @@ returns c =
 
 returns-2 : tie.Need-returns-2
 returns-2 c =
-    told one (c .before .before .before .before .args .count .now) (sym (ap pictureAnswer (c .before .before .answer2 .given .1))) (c .refusal-status .ensures, refl)
+    let same = sym (ap pictureAnswer (c .before .before .answer2 .given .1)) in
+    told one (c .before .before .before .before .args .count .now) same (c .refusal-status .ensures, refl)
 
 pub put-size-spec : {M : Type 1} → statement M
 put-size-spec =

@@ -1,4 +1,4 @@
--- The first bytes of a list that has as many are as many.
+-- The first n bytes of a list that has n are n bytes.
 use lib.ListN.{length-take}
 use native.Mathlib.Omega.{arith}
 use borrow.Author.Needs.{needs}

@@ -1,4 +1,4 @@
--- The first bytes of a list that has as many are as many, here of the lent buffer.
+-- The first n bytes of the lent buffer, which has n, are n bytes.
 use lib.ListN.{length-take}
 use native.Mathlib.Omega.{arith}
 use borrow.Author.Needs.{needs}

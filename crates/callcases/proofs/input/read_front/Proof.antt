@@ -1,4 +1,4 @@
--- The first bytes of a list that has as many are as many, and what is read takes their place.
+-- The first n bytes of a list that has n are n bytes, and what is read replaces them.
 use lib.ListN.{drop, length-take}
 use lib.Seq.{drop-at}
 use native.Mathlib.Omega.{arith}
@@ -20,9 +20,11 @@ same-length c = search needs
 
 returns : tie.Need-returns
 returns c =
-    let args = c .before .before .before .before .before .args in
+    let start = c .before .before .before .before .before in
+    let n = start .args .count in
+    let space = start .args .space .now in
     let p = c .before .before .read-all in
-    drop-at (p .last .0) (drop (args .count) (args .space .now)) (args .count) (omega (arith, p .kept .0, length-take (args .count) (args .space .now), c .before .before .before .before .before .pre))
+    drop-at (p .last .0) (drop n space) n (omega (arith, p .kept .0, length-take n space, start .pre))
 
 pub read-front-spec : {M : Type 1} → statement M
 read-front-spec = tie.close (tie.spec slice-relend-prefix-read-all slice-aggregate-read-all read-all-requires same-length returns)

@@ -1,4 +1,4 @@
--- Each return by the test that led there.
+-- Each return follows from the test that leads there.
 use native.Mathlib.Omega.{arith}
 use borrow.Author.Needs.{needs}
 use borrow.Author.Tests.{lt-ltb, le-ltb}
