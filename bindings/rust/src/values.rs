@@ -212,26 +212,25 @@ impl Row {
         Row::new(cost, Placement(clouds), blocks, amounts)
     }
 
-    /// What the placement costs: the sum of its storage, transfer and cpu; below 2^53.
+    /// The cost of its [`Bill`], by which rows are ordered.
     #[must_use]
     pub fn cost(&self) -> u64 {
         self.cost
     }
 
-    /// What storage is charged: the data for their time, and each copy that a transfer leaves with
-    /// its service for one month there.
+    /// The storage of its [`Bill`].
     #[must_use]
     pub fn storage(&self) -> u64 {
         self.storage
     }
 
-    /// What the transfers are charged, by the clouds that data leave and those that they enter.
+    /// The transfer of its [`Bill`].
     #[must_use]
     pub fn transfer(&self) -> u64 {
         self.transfer
     }
 
-    /// What the services are charged for their cpu units.
+    /// The cpu of its [`Bill`].
     #[must_use]
     pub fn cpu(&self) -> u64 {
         self.cpu
