@@ -34,7 +34,7 @@ module _ {A : Type 0} where
     | inr n ↦ let (j, q, h, i, e) = prefixed-to rest ks p n in (j, q, Memᴰ.tail h, i, e)
   ]
 
-  prefixed-from : (rest : List (List A)) {c : List A} {k : A} {q : List A} → Memᴰ k c → Memᴰ q rest → Memᴰ (k ∷ q) (prefixed rest c)
+  prefixed-from : (rest : List (List A)) {k : A} {q : List A} {c : List A} → Memᴰ k c → Memᴰ q rest → Memᴰ (k ∷ q) (prefixed rest c)
   prefixed-from rest {q} (Memᴰ.head {x} {xs} e) m =
       Memᴰ.append_left (prefixed rest xs) (Memᴰ.cast (ap (λ (y : A). y ∷ q) e) (Memᴰ.map (λ (p : List A). x ∷ p) m))
   prefixed-from rest (Memᴰ.tail {x} n) m = Memᴰ.append_right (map (λ p. x ∷ p) rest) (prefixed-from rest n m)
@@ -46,7 +46,12 @@ module _ {A : Type 0} where
     sequences-to (c ∷ cs) p m =
         let (k, q, h, i, e) = prefixed-to (sequences cs) c p m in
         let rest = sequences-to cs q i in
-        (ap length e ∙ ap suc rest.0, rw e (λ b. elim b [ zero ↦ λ _. h | suc j ↦ λ l. rest.1 j (le_of_suc-le-suc l) ]))
+        (ap length e ∙ ap suc rest.0, rw e (at_each k q h rest.1))
+      where
+        at_each : (k : A) (q : List A) → Memᴰ k c → ((b : ℕ) → b < length cs → Memᴰ (get_or q b default) (get_or cs b []))
+            → (b : ℕ) → b < length (c ∷ cs) → Memᴰ (get_or (k ∷ q) b default) (get_or (c ∷ cs) b [])
+        at_each k q h r zero l = h
+        at_each k q h r (suc j) l = r j (le_of_suc-le-suc l)
 
     sequences-from : (cs : List (List A)) (p : List A) → length p ≡ length cs
         → ((b : ℕ) → b < length cs → Memᴰ (get_or p b default) (get_or cs b [])) → Memᴰ p (sequences cs)

@@ -64,6 +64,7 @@ module _ {A : Type 0} {alike : A → A → Bool} (laws : Equivalence alike) wher
       (λ f. (λ y m. rw ((none-members (alike x) xs).0 f y (distinct-inside xs y m)) refl, distinct-unlike xs))
 
   distinct_named : (xs : List A) (z : A) → Memᴰ z xs → Named alike (distinct_by alike xs) z
+  distinct_named [] z m = elim m [ ]
   distinct_named (x ∷ xs) z (Memᴰ.head e) =
       cond_ind (λ r. Named alike r z) (any (alike x) xs) (distinct_by alike xs) (x ∷ distinct_by alike xs)
       (λ t.

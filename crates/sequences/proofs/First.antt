@@ -27,9 +27,14 @@ module _ {A : Type 0} (test : A → Bool) (default : A) where
       step true e = refl
       step false e = e
 
+  fails-behind : (x : A) (xs : List A) (n : ℕ) → test x ≡ false → ((i : ℕ) → i < n → test (get_or xs i default) ≡ false)
+      → (i : ℕ) → i < suc n → test (get_or (x ∷ xs) i default) ≡ false
+  fails-behind x xs n f h zero l = f
+  fails-behind x xs n f h (suc j) l = h j (le_of_suc-le-suc l)
+
   next-is-first : (x : A) (xs : List A) → test x ≡ false → (o : Option ℕ) → IsFirst xs o → IsFirst (x ∷ xs) (map suc o)
-  next-is-first x xs f none h = λ i. elim i [ zero ↦ λ _. f | suc j ↦ λ l. h j (le_of_suc-le-suc l) ]
-  next-is-first x xs f (some n) h = (omega arith, h.1, λ i. elim i [ zero ↦ λ _. f | suc j ↦ λ l. h.2 j (le_of_suc-le-suc l) ])
+  next-is-first x xs f none h = fails-behind x xs (length xs) f h
+  next-is-first x xs f (some n) h = (omega arith, h.1, fails-behind x xs n f h.2)
 
   found-is-first : (xs : List A) → IsFirst xs (first test xs)
   found-is-first [] = λ i l. absurd (not-suc-le-zero l)

@@ -23,6 +23,7 @@ module _ {A : Type 0} (test : A → Bool) where
       (λ _ m. (Memᴰ.tail (keep-to ys x m).0, (keep-to ys x m).1))
 
   keep-from : (xs : List A) (x : A) → Memᴰ x xs → test x ≡ true → Memᴰ x (keep test xs)
+  keep-from [] x m t = elim m [ ]
   keep-from (y ∷ ys) x (Memᴰ.head e) t = cond_ind (Memᴰ x) (test y) (y ∷ keep test ys) (keep test ys)
       (λ _. Memᴰ.head e) (λ f. absurd (true≢false (sym t ∙ (rw e f))))
   keep-from (y ∷ ys) x (Memᴰ.tail m) t = cond_ind (Memᴰ x) (test y) (y ∷ keep test ys) (keep test ys)
@@ -40,6 +41,7 @@ module _ {A : Type 0} (test : A → Bool) where
   ]
 
   any_none : (xs : List A) (x : A) → Memᴰ x xs → any test xs ≡ false → test x ≡ false
+  any_none [] x m f = elim m [ ]
   any_none (y ∷ ys) x (Memᴰ.head e) f = rw e (or-fails (test y) (any test ys) f).0
   any_none (y ∷ ys) x (Memᴰ.tail m) f = any_none ys x m (or-fails (test y) (any test ys) f).1
 

@@ -1,5 +1,7 @@
 // Mathematics of lists, independent of clouds. specs/ has the words that the other crates' definitions are made of, proofs/ their laws.
 // The functions are those that several crates need: a byte as the number of a block or cloud, and a mask bit by bit.
+#![tactic(auto)]
+
 ghost use Rattle.std.specs.Prelude.{◌≡◌, cond, ◌+◌, ◌*◌, ◌<◌};
 
 pub fn wide(x: u8) -> usize
