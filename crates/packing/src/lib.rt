@@ -1,4 +1,6 @@
 // Placements as numbers: the clouds of the blocks as digits to the base 8, which compare as the placements' bytes do.
+#![tactic(auto)]
+
 ghost use Rattle.std.specs.Prelude.{◌≡◌, ◌++◌, ◌-◌, ◌≤◌, ◌<◌, get_or, replicate};
 ghost use Rattle.packing.specs.Floors.{FloorOf};
 ghost use Rattle.packing.specs.Packing.{digits};

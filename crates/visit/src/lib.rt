@@ -1,5 +1,7 @@
 // One placement that a walk meets: what is counted and kept of it, or whether it is the row that is drawn. Blocks, clouds and edges are
 // only numbers here, each with what it adds to a placement's weight.
+#![tactic(auto)]
+
 ghost use Rattle.std.specs.Prelude.{◌≡◌, true, [], ◌<◌, ◌≤◌, length};
 ghost use Rattle.weights.specs.Weights.{classes};
 ghost use Rattle.visit.specs.Tables.{Paired, tables, tests_in};

@@ -1,5 +1,7 @@
 // A walk over all placements of a table of blocks. Each is met exactly once, in lexicographic order: each block is put on each cloud where
 // it may stand, and the weight of the blocks so far is passed down.
+#![tactic(auto)]
+
 ghost use Rattle.std.specs.Prelude.{◌+◌, ◌-◌, ◌*◌, ◌^◌, ◌<◌, ◌≡◌, ◌∷◌, length};
 ghost use Rattle.std.specs.Int.Count.{count_trailing_zeros};
 ghost use Rattle.sequences.specs.Bits.{set_bits};

@@ -1,4 +1,6 @@
 // A placement's cost and what it breaks, in one number: its weight. The numbers are named here for all code.
+#![tactic(auto)]
+
 ghost use Rattle.std.specs.Prelude.{◌≡◌, ◌<◌};
 ghost use Rattle.weights.specs.Weights.{classes, class_of};
 
@@ -25,6 +27,7 @@ pub const CLASHES: usize = 3;
 pub const CLASSES: usize = 4;
 
 // The class of a placement, by its weight alone.
+#[tactic(auto, unfolding(crate::specs::Weights::class_of))]
 pub fn class_of(weight: u64) -> usize
     ensures { (result ≡ class_of weight) × (result < classes) }
 {
