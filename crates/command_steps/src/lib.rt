@@ -1,4 +1,6 @@
 // One command at the front of some bytes: its fault, or what it declares put into lent words.
+#![tactic(auto)]
+
 ghost use Rattle.std.specs.Prelude.{◌≡◌, ◌+◌, ◌<◌, cond, eqb, length};
 ghost use Rattle.description.specs.Declarations.{is_pinned, names_datum, names_service};
 ghost use Rattle.description.specs.Meaning.{describes};
@@ -64,14 +66,14 @@ const PIN_WIDTH: usize = 3;
 const PAIR_WIDTH: usize = 3;
 
 // What is wrong with one command: nothing, or the number that it is refused with.
-#[derive(Drop)]
+#[derive(Clone, Copy)]
 pub enum Checked {
     Sound,
     Fault(u8),
 }
 
 // One command that was read: its fault and its width in bytes.
-#[derive(Drop)]
+#[derive(Clone, Copy)]
 pub struct Step {
     pub fault: Checked,
     pub width: usize,

@@ -32,7 +32,7 @@ pub const WORDS: usize = RECORDS * FIELDS;
 pub type Words = [u32; WORDS];
 
 // Five numbers: what each is depends on the part that the record is in.
-#[derive(Drop)]
+#[derive(Clone, Copy)]
 pub struct Record {
     pub a: u32,
     pub b: u32,

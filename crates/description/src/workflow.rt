@@ -10,7 +10,7 @@ use crate::words::{
     Words, put_record, record_at,
 };
 
-#[derive(Drop)]
+#[derive(Clone, Copy)]
 pub struct Cloud {
     pub label: u8,
     pub storage: u16,
@@ -20,34 +20,34 @@ pub struct Cloud {
 }
 
 // What a block is, with the fields that only that kind has.
-#[derive(Drop)]
+#[derive(Clone, Copy)]
 pub enum Kind {
     Datum { size: u16, longevity: u16 },
     Service { clearance: u8, units: u32 },
 }
 
 // Where a block may stand: anywhere, or on one cloud alone.
-#[derive(Drop)]
+#[derive(Clone, Copy)]
 pub enum Pin {
     Free,
     To(u8),
 }
 
 // A block: its label (for a service, its location) and pin, and its kind's own fields.
-#[derive(Drop)]
+#[derive(Clone, Copy)]
 pub struct Block {
     pub label: u8,
     pub kind: Kind,
     pub pin: Pin,
 }
 
-#[derive(Drop)]
+#[derive(Clone, Copy)]
 pub enum Way {
     Reads,
     Writes,
 }
 
-#[derive(Drop)]
+#[derive(Clone, Copy)]
 pub struct Edge {
     pub way: Way,
     pub service: u8,
@@ -55,20 +55,20 @@ pub struct Edge {
 }
 
 // Two data that no cloud may hold together: an anti-affinity, in the usual term for placements.
-#[derive(Drop)]
+#[derive(Clone, Copy)]
 pub struct Pair {
     pub left: u8,
     pub right: u8,
 }
 
 // The number and the place of what is refused.
-#[derive(Drop)]
+#[derive(Clone, Copy)]
 pub struct Refusal {
     pub number: u8,
     pub place: usize,
 }
 
-#[derive(Drop)]
+#[derive(Clone, Copy)]
 pub enum Outcome {
     Accepted,
     Refused(Refusal),

@@ -1,4 +1,6 @@
 // Labels: a level in bits 0 to 3, the embargo mark in bit 4 and the source mark in bit 5; and which label covers which.
+#![tactic(auto)]
+
 ghost use Rattle.std.specs.Prelude.{◌≡◌, ◌%◌, ◌<◌, get_or};
 ghost use Rattle.sequences.specs.Arrays.{table};
 ghost use Rattle.sequences.specs.Bits.{bit};

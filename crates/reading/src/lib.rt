@@ -1,4 +1,6 @@
 // A description's bytes are read command by command into lent words, or refused with 1 to 8.
+#![tactic(auto)]
+
 ghost use Rattle.std.specs.Prelude.{◌≡◌};
 ghost use Rattle.description.specs.Declarations.{nothing};
 ghost use Rattle.description.specs.Meaning.{describes, outcome_of, Cleared};
@@ -49,6 +51,7 @@ fn read_commands(s: &[u8], w: &mut Words) -> Outcome
 }
 
 // The whole description, with at least a cloud and a block.
+#[tactic(auto, using(crate::proofs::Outcomes::decoded))]
 fn read_whole(s: &[u8], w: &mut Words) -> Outcome
     ensures { outcome_of result (describes w.new) ≡ decode s.now }
 {
