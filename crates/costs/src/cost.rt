@@ -5,6 +5,7 @@ ghost use Rattle.costs.specs.Cost.{gigabytes, charged_of, months_of, units_of, s
 use description::workflow::{Cloud, Kind};
 
 // Gigabytes charged for a size in tenths: one more if the remainder is above a half, or is the half after an odd number.
+#[tactic(auto, unfolding(crate::specs::Cost::gigabytes))]
 pub fn gigabytes(size: u16) -> u64
     ensures value { result ≡ gigabytes size }
     ensures upper_bound { result ≤ 6554 }

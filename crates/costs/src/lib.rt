@@ -1,4 +1,6 @@
 // What a placement costs.
+#![tactic(auto)]
+
 pub mod answers;
 pub mod bills;
 pub mod cost;

@@ -30,8 +30,8 @@ use Rattle.sequences.proofs.Tests.{both-pass, not-passed}
 -- the lists of a part, one after the other: the stem, and then the branches
 flat-joined : (s : List ℕ) (bs : List (List ℕ)) → flat (joined s bs) ≡ s ++ flat bs
 flat-joined s [] = refl
-flat-joined s (b ∷ []) = append_assoc s b []
-flat-joined s (b ∷ c ∷ bs) = refl
+flat-joined s (b ∷ []) = first_of (cc, simp append_assoc)
+flat-joined s (b ∷ c ∷ bs) = first_of (cc, simp append_assoc)
 
 module _ (d : Description) (p : List ℕ) where
   -- ---- there is a branch if the edge moves its datum

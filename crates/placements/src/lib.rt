@@ -1,4 +1,6 @@
 // Where a placement has a block, and whether an edge moves its datum.
+#![tactic(auto)]
+
 ghost use Rattle.std.specs.Prelude.{◌≡◌, get_or};
 ghost use Rattle.security.specs.Placements.{moves};
 

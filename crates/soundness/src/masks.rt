@@ -37,6 +37,7 @@ fn covering_clouds(w: &Words, label: u8) -> u8
 }
 
 // Cloud c alone, if it is one of these clouds.
+#[tactic(auto, using(crate::proofs::Alone::alone_past, crate::proofs::Alone::alone_on, crate::proofs::Alone::alone_off))]
 fn alone(clouds: u8, c: u8) -> u8
     ensures { result ≡ cond (bit clouds c) (2 ^ c) 0 }
 {

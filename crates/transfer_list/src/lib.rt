@@ -1,4 +1,6 @@
 // The transfers of a placement, as bytes.
+#![tactic(auto)]
+
 ghost use Rattle.std.specs.Prelude.{◌≡◌, cond, [], ◌∷◌, ◌++◌, leb, ◌+◌, ◌≤◌, length, drop};
 ghost use Rattle.std.proofs.lemmas.List.Edits.{sets};
 ghost use Rattle.sequences.specs.Results.{ok, and_then};
@@ -17,7 +19,7 @@ use sequences::wide;
 use soundness::masks::Masks;
 use verdicts::verdict;
 
-#[derive(Drop)]
+#[derive(Clone, Copy)]
 pub enum Transferred {
     Count(usize),
     Refused(Refusal),

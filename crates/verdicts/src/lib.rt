@@ -1,4 +1,6 @@
 // Judging one placement.
+#![tactic(auto)]
+
 ghost use Rattle.std.specs.Prelude.{◌≡◌, not, ◌&&◌, cond, ltb, eqb};
 ghost use Rattle.sequences.specs.Bits.{bit};
 ghost use Rattle.sequences.specs.Lists.{first};
