@@ -1,4 +1,6 @@
 // The blocks that may not share a cloud: one is a block of the one datum of a pair, the other a block of the other datum.
+#![tactic(auto)]
+
 ghost use Rattle.std.specs.Prelude.{◌≡◌, ◌<◌, replicate};
 ghost use Rattle.description.specs.Invariants.{WellFormed};
 ghost use Rattle.description.specs.Meaning.{describes};

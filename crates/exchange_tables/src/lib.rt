@@ -1,4 +1,6 @@
 // The data between one writer and one reader, and on which cloud each would do better.
+#![tactic(auto)]
+
 ghost use Rattle.std.specs.Prelude.{◌≡◌, cond, ◌++◌, ◌+◌, ◌*◌, ◌<◌, ◌≤◌, eqb, take, drop, replicate};
 ghost use Rattle.description.specs.Declarations.{same_way};
 ghost use Rattle.description.specs.Invariants.{WellFormed};
@@ -183,7 +185,8 @@ fn is_better(
     requires { (m < 16) × (here < 8) × (there < 8) × (quantity ≤ 6554) }
     ensures { result ≡ better_as (deciding_by (describes w.now) words.now longer quantity m) mask here there }
 {
-    if (wide(mask) >> there) % 2 == 0 {
+    let bit = (wide(mask) >> there) % 2;
+    if bit == 0 {
         return false;
     }
     let new = deciding_on(w, words, longer, quantity, m, there, here);

@@ -1,4 +1,6 @@
 // All placements of a description: how many there are of each kind, the first row past a cursor, and all rows.
+#![tactic(auto)]
+
 ghost use Rattle.std.specs.Prelude.{◌≡◌, ◌++◌, ◌≤◌, length, drop};
 ghost use Rattle.description.specs.Meaning.{describes};
 ghost use Rattle.security.specs.Accepted.{Admitted};
@@ -23,7 +25,7 @@ use weights::{BREAKS_FIRST, BREAKS_SECOND, CLASHES, COST_LIMIT, SECURE};
 
 // The scope's "row": the cost and the sixteen cloud numbers of the placement that represents its option, and its bill, whose three amounts add up to
 // the cost.
-#[derive(Drop)]
+#[derive(Clone, Copy)]
 pub struct Row {
     pub cost: u64,
     pub placement: [u8; 16],
@@ -32,7 +34,7 @@ pub struct Row {
 
 // Where a draw continues: from the start, or past a cost and sixteen bytes. Only `start` marks the start: cost 0 with sixteen zeros is a
 // cursor like any other.
-#[derive(Drop)]
+#[derive(Clone, Copy)]
 pub struct Cursor {
     pub start: bool,
     pub cost: u64,
@@ -40,7 +42,7 @@ pub struct Cursor {
 }
 
 // How many candidates there are, how many of each kind, and how many different options.
-#[derive(Drop)]
+#[derive(Clone, Copy)]
 pub struct Figures {
     pub candidates: u64,
     pub breaking16: u64,
@@ -51,7 +53,7 @@ pub struct Figures {
 }
 
 // The first row past a cursor, if there is one; otherwise there are zeros in its place.
-#[derive(Drop)]
+#[derive(Clone, Copy)]
 pub struct Next {
     pub found: bool,
     pub row: Row,

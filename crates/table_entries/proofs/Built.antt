@@ -25,7 +25,7 @@ use Rattle.sequences.proofs.Counting.{length-below}
 use Rattle.sequences.proofs.Numbers.{kept-most}
 use Rattle.sequences.proofs.Positions.{everywhere}
 use Rattle.sequences.proofs.Tests.{cond_ind}
-use Rattle.visit.specs.Tables.{mask, term, end, far_end, start, placements, own_term, edge_term as term_in, weight, Ready}
+use Rattle.visit.specs.Tables.{mask, term, end, far_end, start, placements, own_term, edge_term as term_of_edge, weight, Ready}
 use Rattle.visit.proofs.Defined.{placements-of, weight-of}
 use Rattle.weights.specs.Weights.{term_limit}
 use Rattle.table_entries.specs.Building.{own_of, later, other, late_in, edges_before, starts_of, order_of, edge_in, end_of, ends_of}
@@ -99,7 +99,7 @@ module _ (d : Description) where
       go false = refl
 
   term_is : Limits d → (q : List ℕ) → ((b : ℕ) → get_or q b 0 < length d.clouds) → (i : ℕ) → i < length d.edges
-      → term_in (tables_of d) q i ≡ edge_term d (edge_in d i) (get_or q (edge_in d i).service 0) (get_or q (edge_in d i).datum 0)
+      → term_of_edge (tables_of d) q i ≡ edge_term d (edge_in d i) (get_or q (edge_in d i).service 0) (get_or q (edge_in d i).datum 0)
   term_is few q there i h =
       let i32 : i < 32 = omega (arith, few.edges) in
       rw (far-end i h i32, first-end i h i32)
@@ -179,19 +179,19 @@ module _ (d : Description) (wf : WellFormed d) where
     added : Edge → ℕ
     added e = edge_term d e (service_cloud (padded d q) e) (datum_cloud (padded d q) e)
 
-    at_place : (i : ℕ) → i < length d.edges → term_in (tables_of d) q i ≡ added (edge_in d i)
+    at_place : (i : ℕ) → i < length d.edges → term_of_edge (tables_of d) q i ≡ added (edge_in d i)
     unfolding added
     at_place i h =
         let z = 16 - length d.blocks in
         term_is d wf.limits q there i h ∙
         ap₂ (edge_term d (edge_in d i)) (sym (get_or-padded q z (edge_in d i).service)) (sym (get_or-padded q z (edge_in d i).datum))
 
-    edge-sum : sum (map (term_in (tables_of d) q) (below (start (tables_of d) (length d.blocks)))) ≡ sum (map added d.edges)
+    edge-sum : sum (map (term_of_edge (tables_of d) q) (below (start (tables_of d) (length d.blocks)))) ≡ sum (map added d.edges)
     edge-sum =
         let all : start (tables_of d) (length d.blocks) ≡ length d.edges =
         start_is d (length d.blocks) (omega arith) (omega (arith, wf.limits.blocks)) ∙ all-before (length d.blocks) (omega arith) in
-        ap (λ (n : ℕ). sum (map (term_in (tables_of d) q) (below n))) all ∙
-        ap sum (map_below (term_in (tables_of d) q) (λ i. added (edge_in d i)) (length d.edges) at_place) ∙ edges-sum added
+        ap (λ (n : ℕ). sum (map (term_of_edge (tables_of d) q) (below n))) all ∙
+        ap sum (map_below (term_of_edge (tables_of d) q) (λ i. added (edge_in d i)) (length d.edges) at_place) ∙ edges-sum added
 
     -- a placement of the blocks has the same weight by the tables as its sixteen clouds have by the description
     pub weights : weight (tables_of d) (length d.blocks) q ≡ weight_of d (padded d q)
