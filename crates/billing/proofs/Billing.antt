@@ -1,19 +1,16 @@
 -- Every secure placement has a price; what is not secure is refused as Judge refuses it.
-use Prim.Native.Nat.{ℕ, ◌<◌}
+use Prim.Native.Nat.{ℕ}
 use mathlib.Core.Path.{◌≡◌, sym, ap, ◌∙◌}
 use mathlib.Core.List.{List}
-use Rattle.decoding.specs.Bytes.{Bytes}
 use Rattle.description.specs.Declarations.{Description}
-use Rattle.security.specs.Soundness.{read}
 use Rattle.security.proofs.Accepted.{read-bounded}
 use Rattle.costs.specs.declared.answers.Bill.{Bill}
-use Rattle.costs.specs.Cost.{bill_of, total, cost, AmountsBelow}
+use Rattle.costs.specs.Cost.{bill_of, total, cost}
 use Rattle.costs.proofs.CostBound.{cost-total, bounded-cost, bounded-amounts}
 use Rattle.judging.specs.Calls.{judged}
 use Rattle.judging.proofs.Judged.{judge_call-secure, judged-secure, judged-refused}
 use Rattle.sequences.specs.Results.{ok, and_then}
 use Rattle.sequences.proofs.Results.{ok-inj, and_then-ok}
-use Rattle.weights.specs.Weights.{cost_limit}
 use Rattle.billing.specs.Calls.{bill_call}
 use Rattle.billing.specs.Statements.{Billing}
 

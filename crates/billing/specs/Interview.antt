@@ -1,5 +1,5 @@
 -- Bills stated of the bytes: of description M, the interview file, and of the same with two data apart.
-use Rattle.std.specs.Prelude.{ℕ, ◌≡◌, List}
+use Rattle.std.specs.Prelude.{ℕ, ◌≡◌}
 use Rattle.decoding.specs.Inputs.{end, m, m_apart, place}
 use Rattle.costs.specs.declared.answers.Bill.{Bill}
 use Rattle.sequences.specs.Results.{Result, ok, refused}

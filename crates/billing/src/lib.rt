@@ -1,4 +1,6 @@
 // Bill: what a secure placement costs, and by which parts.
+#![tactic(auto)]
+
 ghost use Rattle.std.specs.Prelude.{◌≡◌, map, ◌*◌, ◌^◌, ◌≤◌, length, get_or};
 ghost use Rattle.sequences.specs.Lists.{below, sum};
 ghost use Rattle.description.specs.Meaning.{describes};
@@ -21,7 +23,7 @@ use security::answers::Verdict;
 use sequences::wide;
 
 // The cost and the three amounts that add up to it.
-#[derive(Drop)]
+#[derive(Clone, Copy)]
 pub enum Billed {
     Priced {
         cost: u64,

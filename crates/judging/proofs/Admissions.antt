@@ -8,6 +8,8 @@ use Rattle.security.specs.Masks.{masks_of}
 use Rattle.security.specs.Soundness.{count}
 use Rattle.sequences.specs.Results.{Result, ok, refused, and_then}
 use Rattle.sequences.proofs.Results.{ok-inj, ok-not-refused}
+use Rattle.transfer_list.specs.Transfers.{buffer_after}
+use Rattle.transfer_list.proofs.Transferring.{refused-leaves}
 use Rattle.judging.specs.declared.answers.Admission.{Admission}
 use Rattle.judging.specs.declared.answers.Admission.TheVariants.{Accepted, Refused}
 use Rattle.judging.specs.Answers.{admission_of, counted, masks_after}
@@ -39,3 +41,7 @@ module _ {o : Admission} (d : Description) (v : Result Description) (means : adm
 pub masks-accepted : {v : Result Description} {d : Description} (before : List ℕ) {after : List ℕ} → v ≡ ok d → after ≡ masks_after (masked v) before
     → after ≡ masks_of d
 masks-accepted before e h = h ∙ ap (λ r. masks_after (masked r) before) e
+
+-- a refusal leaves the buffer
+pub refused_leaves : (number place : ℕ) (buffer : List ℕ) → buffer_after (refused number place) buffer ≡ buffer
+refused_leaves number place buffer = refused-leaves number place buffer

@@ -86,6 +86,7 @@ pub fn accept(description: &[u8], w: &mut Words) -> Admission
 }
 
 // For a call that needs a secure placement: what Read refuses, then what Judge refuses; if neither does, the words hold the description.
+#[tactic(auto, unfolding(crate::specs::Calls::judged))]
 pub fn accept_secure(description: &[u8], placement: [u8; 16], w: &mut Words) -> Verdict
     ensures { verdict_on result (describes w.new) ≡ judged description.now placement }
 {

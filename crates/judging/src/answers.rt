@@ -1,7 +1,7 @@
 // What Read answers, and what it passes on to the calls above it.
 use description::workflow::Refusal;
 
-#[derive(Drop)]
+#[derive(Clone, Copy)]
 pub enum Acceptance {
     Accepted {
         clouds: usize,
@@ -12,14 +12,14 @@ pub enum Acceptance {
 }
 
 // An accepted description comes with the number of its candidates, so that they are not counted again.
-#[derive(Drop)]
+#[derive(Clone, Copy)]
 pub enum Admission {
     Accepted(u64),
     Refused(Refusal),
 }
 
 // What Masks answers. The sixteen bytes are in the lent array, since an enum holds no array.
-#[derive(Drop)]
+#[derive(Clone, Copy)]
 pub enum Masked {
     Written,
     Refused(Refusal),

@@ -1,4 +1,6 @@
 // Read, Masks, Judge and Transfers: the calls that need no list of placements.
+#![tactic(auto)]
+
 ghost use Rattle.std.specs.Prelude.{◌≡◌, length};
 ghost use Rattle.sequences.specs.Results.{ok, and_then};
 ghost use Rattle.judging.specs.Answers.{read_answer, masked_answer, masks_after};
@@ -18,6 +20,7 @@ use soundness::masks::{Masks, POSITIONS};
 use transfer_list::Transferred;
 
 // Read: the counts of clouds, blocks and edges of an accepted description, or its first refusal.
+#[tactic(auto, unfolding(crate::specs::Calls::read_call))]
 pub fn read(description: &[u8]) -> Acceptance
     ensures { read_answer result ≡ read_call description.now }
 {
@@ -34,6 +37,7 @@ pub fn read(description: &[u8]) -> Acceptance
 }
 
 // Masks: which clouds each block may use, bit k of byte b for cloud k and block b.
+#[tactic(auto, unfolding(crate::specs::Calls::masks_call))]
 pub fn masks(description: &[u8], masks: &mut Masks) -> Masked
     ensures result_value { masked_answer result ≡ and_then (masks_call description.now) (λ ms. ok tt) }
     ensures masks_after { masks.new ≡ masks_after (masks_call description.now) masks.old }
@@ -51,6 +55,7 @@ pub fn masks(description: &[u8], masks: &mut Masks) -> Masked
 }
 
 // Judge a placement: secure, or the number and place of what it breaks first.
+#[tactic(auto, unfolding(crate::specs::Calls::judge_call))]
 pub fn judge(description: &[u8], placement: [u8; 16]) -> Verdict
     ensures { judge_answer result ≡ judge_call description.now placement }
 {
@@ -64,6 +69,7 @@ pub fn judge(description: &[u8], placement: [u8; 16]) -> Verdict
 }
 
 // The transfers of a secure placement, in edge order, four bytes each, at the front of the buffer.
+#[tactic(auto, using(crate::proofs::Admissions::refused_leaves), unfolding(crate::specs::Calls::transfers_call))]
 pub fn transfers(description: &[u8], placement: [u8; 16], buffer: &mut [u8]) -> Transferred
     ensures result_value { transfers_answer result
         ≡ and_then (transfers_call description.now placement (length buffer.old)) (λ ts. ok (length ts)) }

@@ -1,4 +1,6 @@
 // The lines that `listoptions` prints, put into a buffer that the caller lends.
+#![tactic(auto)]
+
 ghost use Rattle.std.specs.Prelude.{◌≡◌, [], ◌∷◌, ◌++◌, ◌+◌, ◌≤◌, ◌<◌, length};
 ghost use Rattle.list_text.specs.Lines.{digit, decimal, options_line, refusal_line, placed, placed_end};
 ghost use Rattle.list_text.specs.Making.{text};
@@ -28,7 +30,7 @@ fn byte_before(byte: u8, line: Line) -> Line
     ensures start_value { result.start + 1 ≡ line.start }
 {
     let mut longer = line;
-    let at = line.start - 1;
+    let at = longer.start - 1;
     longer.bytes[at] = byte;
     longer.start = at;
     longer

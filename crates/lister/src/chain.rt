@@ -9,7 +9,7 @@ use crate::{Answer, Drawn, draw};
 use survey::{Cursor, Row};
 
 // One draw of a chain: what it answered, and the cursor of the next.
-#[derive(Drop)]
+#[derive(Clone, Copy)]
 pub struct Link {
     pub drawn: Drawn,
     pub next: Cursor,

@@ -1,4 +1,6 @@
 // Census and Draw: the counts of a description's placements, and the first row past a cursor.
+#![tactic(auto)]
+
 ghost use Rattle.std.specs.Prelude.{◌≡◌};
 ghost use Rattle.survey.specs.Answers.{row_in, zero_row};
 ghost use Rattle.lister.specs.Answers.{census_answer, draw_answer, row_beside};
@@ -14,21 +16,21 @@ use judging::answers::Admission;
 use soundness::masks::POSITIONS;
 use survey::{Cursor, Figures, Next, Row, count_all, row_past, zero_row};
 
-#[derive(Drop)]
+#[derive(Clone, Copy)]
 pub enum Counted {
     Counts(Figures),
     Refused(Refusal),
 }
 
 // What a draw answers. The row is beside the answer, since an enum holds no array.
-#[derive(Drop)]
+#[derive(Clone, Copy)]
 pub enum Answer {
     Found,
     Finished,
     Refused(Refusal),
 }
 
-#[derive(Drop)]
+#[derive(Clone, Copy)]
 pub struct Drawn {
     pub answer: Answer,
     pub row: Row,

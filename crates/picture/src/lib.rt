@@ -1,4 +1,6 @@
 // Picture and Picture size: a secure placement as Graphviz text, and how many bytes that has.
+#![tactic(auto)]
+
 ghost use Rattle.std.specs.Prelude.{◌≡◌, length};
 ghost use Rattle.description.specs.Meaning.{describes};
 ghost use Rattle.picture.specs.Answers.{picture_answer, size_of};
@@ -15,7 +17,7 @@ use lines::draw;
 use security::answers::Verdict;
 use text::put_text;
 
-#[derive(Drop)]
+#[derive(Clone, Copy)]
 pub enum Pictured {
     Bytes(usize),
     Refused(Refusal),

@@ -16,12 +16,11 @@ use Rattle.labels.specs.Labels.{Covers, covers}
 use Rattle.labels.proofs.Covering.{covers-is, covers-not}
 use Rattle.security.specs.Soundness.{cloud_label, block_label, pin_allows, read}
 use Rattle.security.specs.Placements.{judge}
-use Rattle.security.specs.Statements.{Stands, Good}
+use Rattle.security.specs.Statements.{Good}
 use Rattle.security.proofs.Standing.{pin-kept}
 use Rattle.security.proofs.Judging.{judge-13}
 use Rattle.security.proofs.Refusals.{read-within}
 use Rattle.judging.proofs.Judged.{judge_call-is}
-use Rattle.judging.specs.Calls.{judge_call}
 use Rattle.decoding.specs.Bytes.{deciding_bytes}
 use Rattle.sequences.specs.Results.{Result, ok, refused, and_then, RefusalWithin}
 use Rattle.sequences.proofs.Results.{ok-inj, and_then-ok, and_then-refused}

@@ -1,4 +1,6 @@
 // Standing: may a position of a placement have a cloud, and if not, which of the tests behind number 13 fails first.
+#![tactic(auto)]
+
 ghost use Rattle.std.specs.Prelude.{◌≡◌, cond, eqb};
 ghost use Rattle.description.specs.Meaning.{describes};
 ghost use Rattle.security.specs.Soundness.{pin_allows};
@@ -13,7 +15,7 @@ use labels::covers;
 use sequences::wide;
 
 // The tests of a block come in this order; a position without a block has one of its own.
-#[derive(Drop)]
+#[derive(Clone, Copy)]
 pub enum Reason {
     Allowed,
     NoSuchCloud,
@@ -22,7 +24,7 @@ pub enum Reason {
     NoBlock,
 }
 
-#[derive(Drop)]
+#[derive(Clone, Copy)]
 pub enum Explanation {
     Reason(Reason),
     Refused(Refusal),

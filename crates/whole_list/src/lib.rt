@@ -1,4 +1,6 @@
 // The whole list of a description's options in one walk: every row in words that the caller lends, sorted.
+#![tactic(auto)]
+
 ghost use Rattle.std.specs.Prelude.{◌≡◌, cond, ◌++◌, ◌≤◌, leb, length, drop, replicate};
 ghost use Rattle.sequences.specs.Results.{ok};
 ghost use Rattle.description.specs.Meaning.{describes};
@@ -28,13 +30,13 @@ pub const ROW_WORDS: usize = 5;
 const KEY_WORDS: usize = 2;
 
 // How many rows a list has, and how many blocks each of its placements has.
-#[derive(Drop)]
+#[derive(Clone, Copy)]
 pub struct Extent {
     pub rows: usize,
     pub blocks: usize,
 }
 
-#[derive(Drop)]
+#[derive(Clone, Copy)]
 pub enum Listed {
     Rows(Extent),
     Refused(Refusal),
