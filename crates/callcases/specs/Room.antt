@@ -25,7 +25,7 @@ words = 160
 abbrev pub Within : Reply → Type 0
 Within (Line end) = end ≤ size
 Within Bad = Unit {0}
-Within Failed = Unit {0}
+Within (Failed error) = Unit {0}
 
 -- there is room for the next line
 abbrev pub Roomy : Turn → Type 0

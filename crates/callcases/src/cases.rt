@@ -10,6 +10,7 @@ use crate::lines::{
 };
 use crate::output::{put, put_hex};
 use sequences::wide;
+use std::io::{Error, Read};
 use survey::Cursor;
 
 // The offset after the case's line in the output; or it is no case; or a read failed.
@@ -17,7 +18,7 @@ use survey::Cursor;
 pub enum Reply {
     Line(usize),
     Bad,
-    Failed,
+    Failed(Error),
 }
 
 // The reply if a part of the case is missing.
@@ -25,37 +26,49 @@ pub fn without(part: Part) -> Reply
     ensures { Within result }
 {
     match part {
-        Part::Failed => Reply::Failed,
+        Part::Failed(error) => Reply::Failed(error),
         _ => Reply::Bad,
     }
 }
 
 // Each letter has its own function, which reads the operands and puts the line.
-pub fn answer(letter: u8, description: &[u8], out: &mut Buffer, at: usize) -> Reply
+pub fn answer<R: Read>(
+    reader: &mut R,
+    letter: u8,
+    description: &[u8],
+    out: &mut Buffer,
+    at: usize,
+) -> Reply
     requires { at + line ≤ size }
     ensures { Within result }
 {
     match letter {
         b'R' => answer_read(description, out, at),
         b'M' => answer_masks(description, out, at),
-        b'J' => answer_judge(description, out, at),
+        b'J' => answer_judge(reader, description, out, at),
         b'C' => answer_census(description, out, at),
-        b'D' => answer_draw(description, out, at),
-        b'T' => answer_lending(description, out, at, Lending::Transfers),
-        b'P' => answer_lending(description, out, at, Lending::Picture),
-        b'B' => answer_size(description, out, at),
-        _ => answer_later(letter, description, out, at),
+        b'D' => answer_draw(reader, description, out, at),
+        b'T' => answer_lending(reader, description, out, at, Lending::Transfers),
+        b'P' => answer_lending(reader, description, out, at, Lending::Picture),
+        b'B' => answer_size(reader, description, out, at),
+        _ => answer_later(reader, letter, description, out, at),
     }
 }
 
 // More letters, so that no `match` gets too long.
-fn answer_later(letter: u8, description: &[u8], out: &mut Buffer, at: usize) -> Reply
+fn answer_later<R: Read>(
+    reader: &mut R,
+    letter: u8,
+    description: &[u8],
+    out: &mut Buffer,
+    at: usize,
+) -> Reply
     requires { at + line ≤ size }
     ensures { Within result }
 {
     match letter {
-        b'A' => answer_bill(description, out, at),
-        b'W' => answer_standing(description, out, at),
+        b'A' => answer_bill(reader, description, out, at),
+        b'W' => answer_standing(reader, description, out, at),
         _ => Reply::Bad,
     }
 }
@@ -78,12 +91,12 @@ fn answer_masks(description: &[u8], out: &mut Buffer, at: usize) -> Reply
     Reply::Line(put(out, at, b"\n"))
 }
 
-fn answer_judge(description: &[u8], out: &mut Buffer, at: usize) -> Reply
+fn answer_judge<R: Read>(reader: &mut R, description: &[u8], out: &mut Buffer, at: usize) -> Reply
     requires { at + line ≤ size }
     ensures { Within result }
 {
     let mut placement = [0u8; 16];
-    let part = read_all(&mut placement);
+    let part = read_all(reader, &mut placement);
     let Part::Whole = part else {
         return without(part);
     };
@@ -99,22 +112,22 @@ fn answer_census(description: &[u8], out: &mut Buffer, at: usize) -> Reply
     Reply::Line(put(out, at, b"\n"))
 }
 
-fn answer_draw(description: &[u8], out: &mut Buffer, at: usize) -> Reply
+fn answer_draw<R: Read>(reader: &mut R, description: &[u8], out: &mut Buffer, at: usize) -> Reply
     requires { at + line ≤ size }
     ensures { Within result }
 {
     let mut kind = [0u8; 1];
-    let part = read_all(&mut kind);
+    let part = read_all(reader, &mut kind);
     let Part::Whole = part else {
         return without(part);
     };
     let mut cost = [0u8; 8];
-    let part = read_all(&mut cost);
+    let part = read_all(reader, &mut cost);
     let Part::Whole = part else {
         return without(part);
     };
     let mut placement = [0u8; 16];
-    let part = read_all(&mut placement);
+    let part = read_all(reader, &mut placement);
     let Part::Whole = part else {
         return without(part);
     };
@@ -146,17 +159,23 @@ enum Lending {
     Picture,
 }
 
-fn answer_lending(description: &[u8], out: &mut Buffer, at: usize, call: Lending) -> Reply
+fn answer_lending<R: Read>(
+    reader: &mut R,
+    description: &[u8],
+    out: &mut Buffer,
+    at: usize,
+    call: Lending,
+) -> Reply
     requires { at + line ≤ size }
     ensures { Within result }
 {
     let mut placement = [0u8; 16];
-    let part = read_all(&mut placement);
+    let part = read_all(reader, &mut placement);
     let Part::Whole = part else {
         return without(part);
     };
     let mut room = [0u8; 2];
-    let part = read_all(&mut room);
+    let part = read_all(reader, &mut room);
     let Part::Whole = part else {
         return without(part);
     };
@@ -229,12 +248,12 @@ fn put_answer(
     }
 }
 
-fn answer_size(description: &[u8], out: &mut Buffer, at: usize) -> Reply
+fn answer_size<R: Read>(reader: &mut R, description: &[u8], out: &mut Buffer, at: usize) -> Reply
     requires { at + line ≤ size }
     ensures { Within result }
 {
     let mut placement = [0u8; 16];
-    let part = read_all(&mut placement);
+    let part = read_all(reader, &mut placement);
     let Part::Whole = part else {
         return without(part);
     };
@@ -242,12 +261,12 @@ fn answer_size(description: &[u8], out: &mut Buffer, at: usize) -> Reply
     Reply::Line(put(out, at, b"\n"))
 }
 
-fn answer_bill(description: &[u8], out: &mut Buffer, at: usize) -> Reply
+fn answer_bill<R: Read>(reader: &mut R, description: &[u8], out: &mut Buffer, at: usize) -> Reply
     requires { at + line ≤ size }
     ensures { Within result }
 {
     let mut placement = [0u8; 16];
-    let part = read_all(&mut placement);
+    let part = read_all(reader, &mut placement);
     let Part::Whole = part else {
         return without(part);
     };
@@ -255,12 +274,17 @@ fn answer_bill(description: &[u8], out: &mut Buffer, at: usize) -> Reply
     Reply::Line(put(out, at, b"\n"))
 }
 
-fn answer_standing(description: &[u8], out: &mut Buffer, at: usize) -> Reply
+fn answer_standing<R: Read>(
+    reader: &mut R,
+    description: &[u8],
+    out: &mut Buffer,
+    at: usize,
+) -> Reply
     requires { at + line ≤ size }
     ensures { Within result }
 {
     let mut place = [0u8; 2];
-    let part = read_all(&mut place);
+    let part = read_all(reader, &mut place);
     let Part::Whole = part else {
         return without(part);
     };

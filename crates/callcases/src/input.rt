@@ -1,15 +1,16 @@
-// Standard input, in parts of a known length. A failed read is reported on standard error at once, while the system still knows why.
+// Parts of a case, of a known length.
 ghost use Rattle.std.specs.Prelude.{◌+◌, ◌*◌, ◌≤◌, ◌≡◌, length, drop};
 ghost use Rattle.standard_input.specs.Counts.{Counted};
 
-use standard_input::Input;
+use standard_input::{Input, read_full};
+use std::io::{Error, Read};
 
 // How a part was read: all of it; less, because the input ended; or a read failed.
 #[derive(Drop)]
 pub enum Part {
     Whole,
     Cut,
-    Failed,
+    Failed(Error),
 }
 
 // A number in two bytes, most significant first.
@@ -32,32 +33,30 @@ pub fn be64(first: usize, second: usize, third: usize, fourth: usize) -> u64
 }
 
 // Reads as many bytes as the buffer has, or all that are left.
-pub fn read_some(bytes: &mut [u8]) -> Input
+pub fn read_some<R: Read>(reader: &mut R, bytes: &mut [u8]) -> Input
     ensures { Counted result bytes.new }
 {
-    let input = standard_input::read_full(bytes);
-    if let Input::Failed = input {
-        os::fail(b"callcases: standard input");
-    }
-    input
+    read_full(reader, bytes)
 }
 
 // Fills the whole buffer.
-pub fn read_all(bytes: &mut [u8]) -> Part {
+pub fn read_all<R: Read>(reader: &mut R, bytes: &mut [u8]) -> Part {
     let wanted = bytes.len();
-    let Input::Bytes(count) = read_some(bytes) else {
-        return Part::Failed;
-    };
-    if count < wanted {
-        return Part::Cut;
+    match read_some(reader, bytes) {
+        Input::Bytes(count) => {
+            if count < wanted {
+                return Part::Cut;
+            }
+            Part::Whole
+        }
+        Input::Failed(error) => Part::Failed(error),
     }
-    Part::Whole
 }
 
 // The same for the first bytes of a buffer; the bytes after them stay.
-pub fn read_front(space: &mut [u8], count: usize) -> Part
+pub fn read_front<R: Read>(reader: &mut R, space: &mut [u8], count: usize) -> Part
     requires { count ≤ length space.old }
     ensures { drop count space.new ≡ drop count space.old }
 {
-    read_all(&mut space[..count])
+    read_all(reader, &mut space[..count])
 }

@@ -1,5 +1,7 @@
 // Answers the cases on standard input, each with one line on standard output.
-ghost use Rattle.std.specs.Prelude.{◌+◌, ◌≤◌};
+#![tactic(auto)]
+
+ghost use Rattle.std.specs.Prelude.{◌+◌, ◌≤◌, IfOk};
 ghost use Rattle.callcases.specs.Room.{size, line, Within, Roomy};
 
 mod buffer;
@@ -8,10 +10,12 @@ mod input;
 mod lines;
 mod output;
 
-use buffer::{Buffer, LINE, SIZE, front};
+use buffer::{Buffer, LINE, SIZE, front, zeros};
 use cases::Reply;
 use input::Part;
-use standard_input::Input;
+use output::flush;
+use standard_input::{Failure, Input, report};
+use std::io::{Read, Write};
 
 // What to do after a case: go on, with the offset after the output that is not yet written, or end.
 #[derive(Drop)]
@@ -20,92 +24,125 @@ enum Turn {
     End,
 }
 
+// Writes the output that is ready, and ends.
+fn finish<W: Write>(writer: &mut W, out: &Buffer, at: usize) -> Result<Turn, Failure>
+    requires { at ≤ size }
+    ensures { IfOk result Roomy }
+{
+    flush(writer, out, at)?;
+    Ok(Turn::End)
+}
+
 // Reports that what was read is no case, and ends.
-fn bad_case(out: &mut Buffer, at: usize) -> Turn
+fn bad_case<W: Write>(writer: &mut W, out: &mut Buffer, at: usize) -> Result<Turn, Failure>
     requires { at + line ≤ size }
-    ensures { Roomy result }
+    ensures { IfOk result Roomy }
 {
     let at = output::put(out, at, b"bad case\n");
-    output::flush(out, at);
-    Turn::End
+    finish(writer, out, at)
 }
 
-// Writes the output if another line might not fit after it. If a write fails, the program ends.
-fn make_room(out: &Buffer, at: usize) -> Turn
+// Writes the output if another line might not fit after it.
+fn make_room<W: Write>(writer: &mut W, out: &Buffer, at: usize) -> Result<Turn, Failure>
     requires { at ≤ size }
-    ensures { Roomy result }
+    ensures { IfOk result Roomy }
 {
     if at + LINE <= SIZE {
-        return Turn::Next(at);
+        return Ok(Turn::Next(at));
     }
-    if output::flush(out, at) {
-        return Turn::Next(0);
-    }
-    Turn::End
+    flush(writer, out, at)?;
+    Ok(Turn::Next(0))
 }
 
-fn after_reply(out: &mut Buffer, at: usize, reply: Reply) -> Turn
+fn after_reply<W: Write>(
+    writer: &mut W,
+    out: &mut Buffer,
+    at: usize,
+    reply: Reply,
+) -> Result<Turn, Failure>
     requires line_bound { at + line ≤ size }
     requires within { Within reply }
-    ensures { Roomy result }
+    ensures { IfOk result Roomy }
 {
     match reply {
-        Reply::Line(end) => make_room(out, end),
-        Reply::Bad => bad_case(out, at),
-        Reply::Failed => Turn::End,
+        Reply::Line(end) => make_room(writer, out, end),
+        Reply::Bad => bad_case(writer, out, at),
+        Reply::Failed(error) => Err(Failure::Input(error)),
     }
 }
 
 // Reads the rest of a case, beginning with its description of `count` bytes, and answers it.
-fn answer_rest(space: &mut Buffer, letter: u8, count: usize, out: &mut Buffer, at: usize) -> Reply
+fn answer_rest<R: Read>(
+    reader: &mut R,
+    space: &mut Buffer,
+    letter: u8,
+    count: usize,
+    out: &mut Buffer,
+    at: usize,
+) -> Reply
     requires count_le_size { count ≤ size }
     requires line_bound { at + line ≤ size }
     ensures { Within result }
 {
-    let part = input::read_front(space, count);
+    let part = input::read_front(reader, space, count);
     let Part::Whole = part else {
         return cases::without(part);
     };
-    cases::answer(letter, front(space, count), out, at)
+    cases::answer(reader, letter, front(space, count), out, at)
 }
 
 // Reads one case and answers it. The input may end only before a case. After a failed read nothing more is written, not even output that
 // is ready: so output without an error line answers all cases.
-fn next_case(space: &mut Buffer, out: &mut Buffer, at: usize) -> Turn
+fn next_case<R: Read, W: Write>(
+    reader: &mut R,
+    writer: &mut W,
+    space: &mut Buffer,
+    out: &mut Buffer,
+    at: usize,
+) -> Result<Turn, Failure>
     requires { at + line ≤ size }
-    ensures { Roomy result }
+    ensures { IfOk result Roomy }
 {
     let mut header = [0u8; 3];
-    let Input::Bytes(got) = input::read_some(&mut header) else {
-        return Turn::End;
+    let got = match input::read_some(reader, &mut header) {
+        Input::Bytes(got) => got,
+        Input::Failed(error) => return Err(Failure::Input(error)),
     };
     if got == 0 {
-        output::flush(out, at);
-        return Turn::End;
+        return finish(writer, out, at);
     }
     if got < 3 {
-        return bad_case(out, at);
+        return bad_case(writer, out, at);
     }
     let count = input::be16(header[1], header[2]);
-    let reply = answer_rest(space, header[0], count, out, at);
-    after_reply(out, at, reply)
+    let reply = answer_rest(reader, space, header[0], count, out, at);
+    after_reply(writer, out, at, reply)
 }
 
 // A proved loop has to end, but nothing says that the input does. So the loop counts its turns down, from a number that no input reaches.
-fn answer_all(space: &mut Buffer, out: &mut Buffer) {
+fn answer_all<R: Read, W: Write>(
+    reader: &mut R,
+    writer: &mut W,
+    space: &mut Buffer,
+    out: &mut Buffer,
+) -> Result<(), Failure> {
     let mut at = 0;
     let mut turns = u64::MAX;
     while turns > 0 {
-        let Turn::Next(end) = next_case(space, out, at) else {
-            return;
+        let Turn::Next(end) = next_case(reader, writer, space, out, at)? else {
+            return Ok(());
         };
         at = end;
         turns -= 1;
     }
+    Ok(())
 }
 
-fn main() {
-    let mut space = io::large_buffer();
-    let mut out = io::large_buffer();
-    answer_all(&mut space, &mut out);
+fn main(rt: HostRuntime) {
+    let mut space = zeros();
+    let mut out = zeros();
+    let answered = answer_all(&mut rt.stdin(), &mut rt.stdout(), &mut space, &mut out);
+    if let Err(failure) = answered {
+        report(&rt, "callcases", failure);
+    }
 }

@@ -1,21 +1,25 @@
 // Standard output, collected in a buffer so that many lines take one write. A `put` function starts at an offset of the buffer and answers
 // the offset after what it put.
-ghost use Rattle.std.specs.Prelude.{◌+◌, ◌*◌, ◌≤◌, ◌<◌, ◌≡◌, length};
-ghost use Rattle.io.specs.Digits.{hex_digit_ascii};
+ghost use Rattle.std.specs.Prelude.{◌+◌, ◌*◌, ◌≤◌, ◌<◌, ◌≡◌, length, take, OnOk, IfErr};
+ghost use Rattle.std.specs.Char.{digit_char};
+ghost use Rattle.std.specs.Io.KnownBytes.{Appends};
 ghost use Rattle.callcases.specs.Room.{size};
+ghost use Rattle.standard_input.specs.Failures.{OfOutput};
 
 use crate::buffer::{Buffer, front};
-use libc::STDOUT_FILENO;
+use standard_input::Failure;
+use std::io::Write;
 
-// Writes the bytes before the offset, and answers whether all were written.
-pub fn flush(out: &[u8], at: usize) -> bool
+// Writes the bytes before the offset.
+pub fn flush<W: Write>(writer: &mut W, out: &[u8], at: usize) -> Result<(), Failure>
     requires { at ≤ length out.now }
+    ensures bytes { OnOk result (Appends (W.contents writer.old) (W.contents writer.new) (take at out.now)) }
+    ensures error { IfErr result OfOutput }
 {
-    if io::write_all(STDOUT_FILENO, front(out, at)) {
-        return true;
+    match writer.write_all(front(out, at)) {
+        Ok(()) => Ok(()),
+        Err(error) => Err(Failure::Output(error)),
     }
-    os::fail(b"callcases: standard output");
-    false
 }
 
 pub fn put(out: &mut Buffer, at: usize, text: &[u8]) -> usize
@@ -35,10 +39,8 @@ pub fn put_number(out: &mut Buffer, at: usize, n: u64) -> usize
     requires { at + 21 ≤ size }
     ensures { result ≤ at + 21 }
 {
-    let mut digits = [0u8; 20];
-    let count = io::decimal(n, &mut digits);
     let at = put(out, at, b" ");
-    put(out, at, &digits[..count])
+    list_text::rows::put_number(n, out, at)
 }
 
 // Puts a digit for each block's cloud.
@@ -96,7 +98,7 @@ fn put_byte(out: &mut Buffer, at: usize, byte: u8) -> usize
 // A hexadecimal digit, in lower case.
 fn digit(d: u8) -> u8
     requires { d < 16 }
-    ensures { result ≡ hex_digit_ascii d }
+    ensures { result ≡ digit_char d }
 {
     if d < 10 { b'0' + d } else { b'a' + (d - 10) }
 }

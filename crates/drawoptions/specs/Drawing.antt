@@ -1,6 +1,7 @@
 -- What `drawoptions` prints: a line for each draw of a chain, up to and including the first that is no row.
-use Rattle.std.specs.Prelude.{ℕ, ◌≤◌, min, ◌≡◌, List, length, take}
+use Rattle.std.specs.Prelude.{ℕ, ◌≤◌, min, ◌≡◌, List, length, take, map}
 use Rattle.std.proofs.Math.Option.{Option, none, some}
+use Rattle.sequences.specs.Lists.{below, joined}
 use Rattle.sequences.specs.Results.{Result, ok, refused}
 use Rattle.packing.specs.Packing.{pack}
 use Rattle.survey.specs.declared.Row.{Row}
@@ -33,6 +34,10 @@ line_for digits draw (refused number place) = refusal_line number place
 -- the line of a draw of the chain; draw 0 is the first
 unfoldable pub line_at : List ℕ → (draw : ℕ) → List ℕ
 line_at s draw = line_for (digits_in (read_call s)) draw (answer_at s draw)
+
+-- the lines of the first n draws
+abbrev pub lines_before : List ℕ → (n : ℕ) → List ℕ
+lines_before s n = joined (map (line_at s) (below n))
 
 -- the line is at the front of a text, up to `end`
 abbrev pub Front : (line : List ℕ) (end : ℕ) (text : List ℕ) → Type 0

@@ -1,18 +1,25 @@
 // Lists the options of the description on standard input by a chain of draws, a line for each as it is drawn. It prints what `listoptions`
 // prints, and is there to be compared with it: a draw is a walk over all placements, so a long list takes a long time.
-ghost use Rattle.std.specs.Prelude.{◌≤◌, min, ◌≡◌, length, take};
+#![tactic(auto)]
+
+ghost use Rattle.std.specs.Prelude.{◌≤◌, min, ◌≡◌, ℕ, length, take, IfSome, OnOk};
+ghost use Rattle.std.specs.Io.KnownBytes.{Appends};
 ghost use Rattle.packing.specs.Packing.{pack};
 ghost use Rattle.judging.specs.Calls.{read_call};
 ghost use Rattle.lister.specs.Answers.{draw_answer};
-ghost use Rattle.drawoptions.specs.Drawing.{most_digits, line_bytes, digits_in, row_text, line_for, line_at, Front};
+ghost use Rattle.drawoptions.specs.Drawing.{most_digits, line_bytes, digits_in, row_text, line_for, line_at, lines_before, Front};
 
 use costs::answers::Bill;
 use judging::answers::Acceptance;
-use libc::STDOUT_FILENO;
 use list_text::rows::put_rows;
 use lister::{Answer, Drawn, chain};
-use standard_input::Input;
+use standard_input::{Failure, Input, read_full, report};
+use std::io;
+use std::io::{Read, Write};
 use survey::Row;
+
+// As much as is read of a description, and more than the longest that is accepted.
+const SPACE: usize = 4096;
 
 // The most digits of a row, and the most bytes of its line.
 const DIGITS: usize = 16;
@@ -89,21 +96,26 @@ fn put_line(drawn: Drawn, draw: usize, digits: usize, text: &mut [u8]) -> usize
     }
 }
 
-// Hands the front of the text to standard output; nothing else does. No contract can say afterwards what was handed over, so this one asks
-// before: this is the line of that draw of the description's chain.
-fn write_line(description: &[u8], draw: usize, text: &[u8], end: usize) -> bool
+// Hands the front of the text to the writer; nothing else does. No contract can say what becomes of bytes that standard output took, so this
+// one asks before: this is the line of that draw of the description's chain.
+fn write_line<W: Write>(
+    out: &mut W,
+    description: &[u8],
+    draw: usize,
+    text: &[u8],
+    end: usize,
+) -> io::Result<()>
     requires { Front (line_at description.now draw) end text.now }
+    ensures { OnOk result (Appends (W.contents out.old) (W.contents out.new) (line_at description.now draw)) }
 {
-    if io::write_all(STDOUT_FILENO, &text[..end]) {
-        return true;
-    }
-    os::fail(b"drawoptions: standard output");
-    false
+    out.write_all(&text[..end])
 }
 
-// Draws until there is no row, and writes a line for each draw: a row, and at the end how many there were, or why there is none.
-fn write_draws(description: &[u8], text: &mut [u8])
+// Draws until there is no row, and writes a line for each draw: a row, and at the end how many there were, or why there is none. The clause says
+// that whole lines come, from the first draw on and in order; how many draws there are it leaves open.
+fn write_draws<W: Write>(out: &mut W, description: &[u8], text: &mut [u8]) -> io::Result<()>
     requires { length text.old ≡ line_bytes }
+    ensures { OnOk result ((n : ℕ) × Appends (W.contents out.old) (W.contents out.new) (lines_before description.now n)) }
 {
     let digits = digits_of(description);
     let mut cursor = chain::begin();
@@ -112,26 +124,43 @@ fn write_draws(description: &[u8], text: &mut [u8])
         let link = chain::advance(description, cursor);
         let drawn = link.drawn;
         let end = put_line(drawn, draw, digits, text);
-        if !write_line(description, draw, text, end) {
-            return;
-        }
+        write_line(out, description, draw, text, end)?;
         let answer = drawn.answer;
         let Answer::Found = answer else {
-            return;
+            return Ok(());
         };
         let next = link.next;
         cursor = next;
         draw += 1;
     }
+    Ok(())
 }
 
-// As in `listoptions`, what does not fit into the buffer need not be read.
-fn main() {
-    let mut space = io::buffer();
-    let Input::Bytes(count) = standard_input::read_full(&mut space) else {
-        os::fail(b"drawoptions: standard input");
-        return;
+fn space() -> [u8; SPACE]
+    ensures { length result ≡ 4096 }
+{
+    [0; SPACE]
+}
+
+// Draws the rows of the description that is read. As in `listoptions`, what does not fit into the space need not be read.
+fn draw_input<R: Read, W: Write>(reader: &mut R, out: &mut W) -> Result<(), Failure>
+    ensures { OnOk result (IfSome (R.remaining reader.old)
+        (λ s. (n : ℕ) × Appends (W.contents out.old) (W.contents out.new) (lines_before (take 4096 s) n))) }
+{
+    let mut space = space();
+    let count = match read_full(reader, &mut space) {
+        Input::Bytes(count) => count,
+        Input::Failed(error) => return Err(Failure::Input(error)),
     };
     let mut text = [0u8; LINE_BYTES];
-    write_draws(&space[..count], &mut text);
+    match write_draws(out, &space[..count], &mut text) {
+        Ok(()) => Ok(()),
+        Err(error) => Err(Failure::Output(error)),
+    }
+}
+
+fn main(rt: HostRuntime) {
+    if let Err(failure) = draw_input(&mut rt.stdin(), &mut rt.stdout()) {
+        report(&rt, "drawoptions", failure);
+    }
 }

@@ -1,9 +1,14 @@
 // Prints the table of labels: each row as 64 digits and a newline byte.
-ghost use Rattle.std.specs.Prelude.{◌<◌, ◌≡◌, replicate};
+#![tactic(auto)]
+
+ghost use Rattle.std.specs.Prelude.{◌<◌, ◌≡◌, replicate, OnOk};
+ghost use Rattle.std.specs.Io.KnownBytes.{Appends};
 ghost use Rattle.labeltable.specs.Printed.{byte_at, printed};
 
 use labels::{LABELS, covers};
-use libc::STDOUT_FILENO;
+use standard_input::{Failure, report};
+use std::io;
+use std::io::Write;
 
 const LINE: usize = LABELS + 1;
 
@@ -43,17 +48,18 @@ fn text() -> [u8; TEXT]
     text
 }
 
-// Hands the text to standard output; nothing else does. No contract can say afterwards what was handed over, so this one asks before: the
-// text is the table, all of it.
-fn write_table(text: &[u8])
+// Hands the text to the writer; nothing else does. No contract can say what becomes of bytes that standard output took, so this one asks
+// before: the text is the table, all of it. A writer whose bytes are known has the table after them.
+fn write_table<W: Write>(out: &mut W, text: &[u8]) -> io::Result<()>
     requires { text.now ≡ printed }
+    ensures { OnOk result (Appends (W.contents out.old) (W.contents out.new) printed) }
 {
-    if !io::write_all(STDOUT_FILENO, text) {
-        os::fail(b"labeltable: standard output");
-    }
+    out.write_all(text)
 }
 
-fn main() {
+fn main(rt: HostRuntime) {
     let table = text();
-    write_table(&table);
+    if let Err(error) = write_table(&mut rt.stdout(), &table) {
+        report(&rt, "labeltable", Failure::Output(error));
+    }
 }

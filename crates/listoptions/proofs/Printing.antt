@@ -3,7 +3,10 @@
 use Prim.Native.Nat.{ℕ, zero, suc, ◌+◌, ◌-◌, ◌*◌, ◌/◌, ◌≤◌, ◌<◌, min}
 use native.Mathlib.Decide.{dec_lt}
 use native.Mathlib.Omega.{arith}
-use mathlib.Core.Path.{◌≡◌, refl, sym, ap, ap₂, ◌∙◌}
+use mathlib.Core.Path.{◌≡◌, refl, sym, ap, ap₂, subst, ◌∙◌}
+use mathlib.Core.Bool.{false}
+use Rattle.std.specs.Prelude.{Option, None, Some, IfSome, is_some}
+use Rattle.std.specs.Io.KnownBytes.{Appends, Consumes, IsAtEnd}
 use mathlib.Core.List.{List, [], ◌∷◌, ◌++◌, map, append-nil, append_assoc, Memᴰ}
 use lib.ListN.{length, take, drop, replicate, length-append, length-take, length-drop}
 use lib.Seq.{take_at, take_all, drop-drop, take-append_seam, drop-append_seam}
@@ -195,6 +198,11 @@ page-next blocks k words (rest, e) d =
     ap (lines_of b) (sym (take_all ((m + n) * 5) words (omega arith))) ∙ taken-apart b m n words ∙ ap (λ l. l ++ more) (next-page blocks k words) in
     next-bytes front page (more ++ rest) (sym (append_assoc (front ++ page) more rest) ∙ ap (λ l. l ++ rest) (sym all) ∙ e) d
 
+-- what did not fail has no error
+pub not-failed : {E : Type 0} (failed : Option E) → is_some failed ≡ false → failed ≡ None
+not-failed None h = refl
+not-failed (Some e) h = cc
+
 -- a text that was put at the front of a buffer is what is handed over of it
 pub front-is : (text old : List ℕ) {now : List ℕ} {end : ℕ} → end ≡ length text → now ≡ written text old 0 → take end now ≡ text
 front-is text old e h = ap₂ take e h ∙ take-append_seam text (drop (0 + length text) old)
@@ -207,3 +215,19 @@ text-within text old e h = omega (arith, e, ap length h ∙ length-append text (
 pub printed-front : (s : List ℕ) (n : ℕ) → deciding_bytes ≤ n → printed (take n s) ≡ printed s
 unfolding printed
 printed-front s n h = ap printed_for (read-front s n h)
+
+-- what a reader has left is printed if what was read of it is: all of it, or as much as fits
+pub read-decides : (old new : Option (List ℕ)) (space : List ℕ) (count : ℕ) (held after : Option (List ℕ)) → length space ≡ 4096 → count ≤ length space
+    → Consumes old new (take count space) → (count < length space → IsAtEnd new) → Appends held after (printed (take count space))
+    → IfSome old (λ s. Appends held after (printed s))
+read-decides None new space count held after size few e end p = tt
+read-decides (Some s) None space count held after size few e end p = absurd e
+read-decides (Some s) (Some rest) space count held after size few e end p =
+    let came = take count space in
+    let same : printed came ≡ printed s = elim (dec_lt count (length space)) [
+      | yes l ↦ ap printed (sym (e ∙ ap (λ l. came ++ l) (end l) ∙ append-nil came))
+      | no l ↦
+          let full : length came ≡ 4096 = omega (arith, length-take count space) in
+          ap printed (sym (ap (take 4096) e ∙ take_at came rest 4096 full)) ∙ printed-front s 4096 (omega arith)
+    ] in
+    subst (Appends held after) same p

@@ -1,5 +1,6 @@
 -- How the program makes what it prints: pages of the lines of the rows that List leaves, and a last line for its answer.
-use Rattle.std.specs.Prelude.{ℕ, ◌*◌, min, ◌≡◌, true, List, ◌++◌, length, take, drop}
+use Rattle.std.specs.Prelude.{ℕ, ◌*◌, min, ◌≡◌, Option, None, List, ◌++◌, length, take, drop}
+use Rattle.std.specs.Io.KnownBytes.{Appends}
 use Rattle.list_text.specs.Lines.{options_line, refusal_line}
 use Rattle.list_text.specs.RowLines.{words_of_row, bytes_of_line, lines_of}
 use Rattle.whole_list.specs.WholeList.{most_words}
@@ -48,6 +49,10 @@ BeginsWith text part = (rest : List ℕ) × (part ++ rest ≡ text)
 abbrev pub NextBytes : (text : List ℕ) (done : ℕ) (part : List ℕ) → Type 0
 NextBytes text done part = part ≡ take (length part) (drop done text)
 
--- if standard output took all that it was given, it was given as many bytes as the text has
+-- if the writer took all that it was given, it was given as many bytes as the text has
 abbrev pub Whole : Sent → List ℕ → Type 0
-Whole sent text = sent.whole ≡ true → sent.bytes ≡ length text
+Whole sent text = sent.failed ≡ None → sent.bytes ≡ length text
+
+-- and if its bytes are known, they have become the ones before and then the text
+abbrev pub Taken : Sent → (old new : Option (List ℕ)) → (text : List ℕ) → Type 0
+Taken sent old new text = sent.failed ≡ None → Appends old new text

@@ -1,17 +1,24 @@
 // Lists the options of the description on standard input: a line for each row, cheapest first, and last their number. The lines are made
 // page by page, so that the text of 65,536 rows needs no room of its own on the stack.
-ghost use Rattle.std.specs.Prelude.{◌+◌, ◌*◌, ◌≤◌, ◌≡◌, length, take};
+#![tactic(auto)]
+
+ghost use Rattle.std.specs.Prelude.{◌+◌, ◌*◌, ◌≤◌, ◌≡◌, length, take, IfSome, OnOk, IfErr};
+ghost use Rattle.std.specs.Io.KnownBytes.{Appends};
+ghost use Rattle.standard_input.specs.Failures.{NotWritten};
 ghost use Rattle.whole_list.specs.WholeList.{list_answer};
 ghost use Rattle.list_text.specs.Lines.{written};
 ghost use Rattle.list_text.specs.RowLines.{words_of_row};
 ghost use Rattle.listoptions.specs.Making.{held_words, held_keys, held_bytes, page_rows, rows_of, blocks_of, last_line, page_text};
-ghost use Rattle.listoptions.specs.Making.{lines_in, BeginsWith, NextBytes, Whole};
+ghost use Rattle.listoptions.specs.Making.{lines_in, BeginsWith, NextBytes, Whole, Taken};
 ghost use Rattle.listoptions.specs.Printed.{printed};
 
-use libc::STDOUT_FILENO;
 use list_text::rows::put_rows;
-use standard_input::Input;
+use standard_input::{Failure, Input, read_full, report};
+use std::io::{Error, Read, Write};
 use whole_list::{Extent, Listed, ROW_WORDS};
+
+// As much as is read of a description. Its first `deciding_bytes` decide (`printed-front`), and they are fewer.
+const SPACE: usize = 4096;
 
 // Words for as many rows as there can be candidates, and for their keys.
 const HELD_WORDS: usize = 327680;
@@ -23,10 +30,10 @@ const PAGE_ROWS: usize = 1024;
 
 const PAGE_BYTES: usize = 103424;
 
-// How many bytes standard output was given, and whether it took them all.
+// How many bytes the writer was given, and the error if it did not take them all.
 #[derive(Drop)]
 struct Sent {
-    whole: bool,
+    failed: Option<Error>,
     bytes: usize,
 }
 
@@ -62,40 +69,48 @@ fn put_page(rows: &[u64], blocks: usize, page: usize, text: &mut [u8]) -> usize
     put_rows(&rows[first..], blocks, text)
 }
 
-// Hands the front of the text to standard output; nothing else does. No contract can say afterwards what was handed over, so this one asks
-// before: these are the next bytes of what is printed for the description, after those that were handed over already.
-fn write_next(description: &[u8], sent: Sent, text: &[u8], end: usize) -> Sent
+// Hands the front of the text to the writer; nothing else does. No contract can say what becomes of bytes that standard output took, so this
+// one asks before: these are the next bytes of what is printed for the description, after those that were handed over already.
+fn write_next<W: Write>(
+    out: &mut W,
+    description: &[u8],
+    sent: Sent,
+    text: &[u8],
+    end: usize,
+) -> Sent
     requires end_in_bounds { (end ≤ length text.now) × (length text.now ≡ held_bytes) × (sent.bytes ≤ 64 * held_bytes) }
     requires next_bytes { NextBytes (printed description.now) sent.bytes (take end text.now) }
-    ensures { result.bytes ≡ sent.bytes + end }
+    ensures bytes { result.bytes ≡ sent.bytes + end }
+    ensures taken { Taken result (W.contents out.old) (W.contents out.new) (take end text.now) }
 {
     let bytes = sent.bytes + end;
-    if io::write_all(STDOUT_FILENO, &text[..end]) {
-        return Sent { whole: true, bytes };
-    }
-    os::fail(b"listoptions: standard output");
-    Sent {
-        whole: false,
-        bytes,
-    }
+    let failed = out.write_all(&text[..end]).err();
+    Sent { failed, bytes }
 }
 
 // All pages, one after the other.
-fn write_pages(description: &[u8], rows: &[u64], blocks: usize, text: &mut [u8]) -> Sent
+fn write_pages<W: Write>(
+    out: &mut W,
+    description: &[u8],
+    rows: &[u64],
+    blocks: usize,
+    text: &mut [u8],
+) -> Sent
     requires rows_len_bound { (length rows.now ≤ held_words) × (length text.old ≡ held_bytes) }
     requires begins_with { BeginsWith (printed description.now) (lines_in blocks rows.now) }
     ensures whole { Whole result (lines_in blocks rows.now) }
     ensures bytes_bound { result.bytes ≤ 64 * held_bytes }
+    ensures taken { Taken result (W.contents out.old) (W.contents out.new) (lines_in blocks rows.now) }
 {
     let mut sent = Sent {
-        whole: true,
+        failed: None,
         bytes: 0,
     };
     let mut page = 0;
     while page * PAGE_ROWS * ROW_WORDS < rows.len() {
         let end = put_page(rows, blocks, page, text);
-        sent = write_next(description, sent, text, end);
-        if !sent.whole {
+        sent = write_next(out, description, sent, text, end);
+        if sent.failed.is_some() {
             return sent;
         }
         page += 1;
@@ -104,23 +119,31 @@ fn write_pages(description: &[u8], rows: &[u64], blocks: usize, text: &mut [u8])
 }
 
 // Everything that is printed for a description: the pages, and the last line.
-fn write_list(description: &[u8], rows: &mut [u64], scratch: &mut [u64], text: &mut [u8]) -> Sent
+fn write_list<W: Write>(
+    out: &mut W,
+    description: &[u8],
+    rows: &mut [u64],
+    scratch: &mut [u64],
+    text: &mut [u8],
+) -> Sent
     requires { (length rows.old ≡ held_words) × (length scratch.old ≡ held_keys) × (length text.old ≡ held_bytes) }
-    ensures { Whole result (printed description.now) }
+    ensures whole { Whole result (printed description.now) }
+    ensures taken { Taken result (W.contents out.old) (W.contents out.new) (printed description.now) }
 {
     let listed = whole_list::list(description, rows, scratch);
     let extent = extent_of(listed);
     let sent = write_pages(
+        out,
         description,
         &rows[..extent.rows * ROW_WORDS],
         extent.blocks,
         text,
     );
-    if !sent.whole {
+    if sent.failed.is_some() {
         return sent;
     }
     let end = put_last(listed, text);
-    write_next(description, sent, text, end)
+    write_next(out, description, sent, text, end)
 }
 
 // A separate function for each of the large arrays: if one were made in place, the proof would compare lists of that length.
@@ -142,15 +165,35 @@ fn bytes() -> [u8; PAGE_BYTES]
     [0; PAGE_BYTES]
 }
 
-// The first `deciding_bytes` of a longer input decide (`printed-front`): what does not fit into the buffer need not be read.
-fn main() {
-    let mut space = io::buffer();
-    let Input::Bytes(count) = standard_input::read_full(&mut space) else {
-        os::fail(b"listoptions: standard input");
-        return;
+fn space() -> [u8; SPACE]
+    ensures { length result ≡ 4096 }
+{
+    [0; SPACE]
+}
+
+// Prints the list of the description that is read. Where the bytes of the reader and of the writer are known, the ones are the description
+// and the others are what is printed for it. After a read that failed nothing was written.
+fn list_input<R: Read, W: Write>(reader: &mut R, out: &mut W) -> Result<(), Failure>
+    ensures bytes { OnOk result (IfSome (R.remaining reader.old) (λ s. Appends (W.contents out.old) (W.contents out.new) (printed s))) }
+    ensures error { IfErr result (λ e. NotWritten e (W.contents out.old) (W.contents out.new)) }
+{
+    let mut space = space();
+    let count = match read_full(reader, &mut space) {
+        Input::Bytes(count) => count,
+        Input::Failed(error) => return Err(Failure::Input(error)),
     };
     let mut rows = words();
     let mut scratch = keys();
     let mut text = bytes();
-    write_list(&space[..count], &mut rows, &mut scratch, &mut text);
+    let sent = write_list(out, &space[..count], &mut rows, &mut scratch, &mut text);
+    match sent.failed {
+        None => Ok(()),
+        Some(error) => Err(Failure::Output(error)),
+    }
+}
+
+fn main(rt: HostRuntime) {
+    if let Err(failure) = list_input(&mut rt.stdin(), &mut rt.stdout()) {
+        report(&rt, "listoptions", failure);
+    }
 }

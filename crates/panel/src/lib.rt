@@ -1,4 +1,7 @@
-// The eleven calls for C, declared in `include/panel.h`. Each answers a status and puts the values of its answer into lent arrays.
+// The eleven calls as C sees them: `panel_c` exports each, and `include/panel.h` declares it. Each answers a status and puts the values of its
+// answer into lent arrays.
+#![tactic(auto)]
+
 ghost use Rattle.std.specs.Prelude.{◌≡◌, length};
 ghost use Rattle.judging.specs.Answers.{masks_after};
 ghost use Rattle.judging.specs.Calls.{read_call, masks_call, judge_call, transfers_call};
@@ -20,8 +23,7 @@ use statuses::{
 use survey::Cursor;
 
 // Read: counts are of clouds, blocks and edges.
-#[unsafe(no_mangle)]
-pub extern "C" fn panel_read(description: &[u8], counts: &mut [u64; 3]) -> u64
+pub fn panel_read(description: &[u8], counts: &mut [u64; 3]) -> u64
     ensures value { result ≡ status (read_call description.now) }
     ensures counts_after { counts.new ≡ values_after count_values (read_call description.now) counts.old }
 {
@@ -30,8 +32,7 @@ pub extern "C" fn panel_read(description: &[u8], counts: &mut [u64; 3]) -> u64
 }
 
 // Masks: bit k of byte b says that block b may stand on cloud k.
-#[unsafe(no_mangle)]
-pub extern "C" fn panel_masks(description: &[u8], masks: &mut [u8; 16]) -> u64
+pub fn panel_masks(description: &[u8], masks: &mut [u8; 16]) -> u64
     ensures value { result ≡ status (masks_call description.now) }
     ensures masks_after { masks.new ≡ masks_after (masks_call description.now) masks.old }
 {
@@ -40,8 +41,7 @@ pub extern "C" fn panel_masks(description: &[u8], masks: &mut [u8; 16]) -> u64
 }
 
 // Judge: secure if the status is 0.
-#[unsafe(no_mangle)]
-pub extern "C" fn panel_judge(description: &[u8], placement: &[u8; 16]) -> u64
+pub fn panel_judge(description: &[u8], placement: &[u8; 16]) -> u64
     ensures { result ≡ status (judge_call description.now placement.now) }
 {
     let bytes = *placement;
@@ -50,8 +50,7 @@ pub extern "C" fn panel_judge(description: &[u8], placement: &[u8; 16]) -> u64
 }
 
 // Transfers: their bytes at the front of the buffer, and how many there are.
-#[unsafe(no_mangle)]
-pub extern "C" fn panel_transfers(
+pub fn panel_transfers(
     description: &[u8],
     placement: &[u8; 16],
     buffer: &mut [u8],
@@ -69,8 +68,7 @@ pub extern "C" fn panel_transfers(
 }
 
 // Picture: its text at the front of the buffer, and how many bytes that has.
-#[unsafe(no_mangle)]
-pub extern "C" fn panel_picture(
+pub fn panel_picture(
     description: &[u8],
     placement: &[u8; 16],
     buffer: &mut [u8],
@@ -88,12 +86,7 @@ pub extern "C" fn panel_picture(
 }
 
 // Picture size: the same number, and nothing is written.
-#[unsafe(no_mangle)]
-pub extern "C" fn panel_picture_size(
-    description: &[u8],
-    placement: &[u8; 16],
-    count: &mut [u64; 1],
-) -> u64
+pub fn panel_picture_size(description: &[u8], placement: &[u8; 16], count: &mut [u64; 1]) -> u64
     ensures value { result ≡ status (size_call description.now placement.now) }
     ensures count_after { count.new ≡ values_after one (size_call description.now placement.now) count.old }
 {
@@ -103,12 +96,7 @@ pub extern "C" fn panel_picture_size(
 }
 
 // Bill: the cost of a secure placement, then its storage, transfer and cpu.
-#[unsafe(no_mangle)]
-pub extern "C" fn panel_bill(
-    description: &[u8],
-    placement: &[u8; 16],
-    amounts: &mut [u64; 4],
-) -> u64
+pub fn panel_bill(description: &[u8], placement: &[u8; 16], amounts: &mut [u64; 4]) -> u64
     ensures value { result ≡ status (bill_call description.now placement.now) }
     ensures amounts_after { amounts.new ≡ values_after price (bill_call description.now placement.now) amounts.old }
 {
@@ -118,13 +106,7 @@ pub extern "C" fn panel_bill(
 }
 
 // Standing: why a position may not have a cloud; 0 if it may.
-#[unsafe(no_mangle)]
-pub extern "C" fn panel_standing(
-    description: &[u8],
-    position: usize,
-    cloud: u8,
-    reason: &mut [u64; 1],
-) -> u64
+pub fn panel_standing(description: &[u8], position: usize, cloud: u8, reason: &mut [u64; 1]) -> u64
     ensures value { result ≡ status (standing_call description.now position cloud) }
     ensures reason_after { reason.new ≡ values_after one (standing_call description.now position cloud) reason.old }
 {
@@ -133,8 +115,7 @@ pub extern "C" fn panel_standing(
 }
 
 // Census: the six figures.
-#[unsafe(no_mangle)]
-pub extern "C" fn panel_census(description: &[u8], figures: &mut [u64; 6]) -> u64
+pub fn panel_census(description: &[u8], figures: &mut [u64; 6]) -> u64
     ensures value { result ≡ status (census_call description.now) }
     ensures figures_after { figures.new ≡ values_after figure_values (census_call description.now) figures.old }
 {
@@ -143,8 +124,7 @@ pub extern "C" fn panel_census(description: &[u8], figures: &mut [u64; 6]) -> u6
 }
 
 // Draw: whether there is a row past the cursor, and that row with its bill.
-#[unsafe(no_mangle)]
-pub extern "C" fn panel_draw(
+pub fn panel_draw(
     description: &[u8],
     start: bool,
     cost: u64,
@@ -171,8 +151,7 @@ pub extern "C" fn panel_draw(
 }
 
 // List: the rows in lent words, five for each row; then how many rows there are, and how many blocks.
-#[unsafe(no_mangle)]
-pub extern "C" fn panel_list(
+pub fn panel_list(
     description: &[u8],
     rows: &mut [u64],
     scratch: &mut [u64],

@@ -1,5 +1,7 @@
 // The answers of calls for C: a status, which is 0 or a refusal's number and place in one word, and values in lent arrays, which a refusal
 // does not change.
+#![tactic(auto)]
+
 ghost use Rattle.std.specs.Prelude.{◌≡◌, min};
 ghost use Rattle.judging.specs.Answers.{read_answer, masked_answer};
 ghost use Rattle.security.specs.Answers.{judge_answer};

@@ -1,0 +1,43 @@
+-- Before each draw the cursor is that of the chain, and the lines of the draws before it were handed over.
+use Rattle.std.proofs.Common.{◌+◌, arith, add-one, sym, ap₂, subst, ◌∙◌}
+use Rattle.std.specs.Io.KnownBytes.{Appends}
+use Rattle.std.proofs.KnownBytes.{Appends-nil, Appends-trans}
+use Rattle.lister.proofs.Chained.{chain-begins}
+use Rattle.drawoptions.specs.Drawing.{line_for, line_at, Front}
+use Rattle.drawoptions.proofs.Lines.{next-line}
+use Rattle.drawoptions.proofs.write_draws.Goals as goal
+
+pub loop-draw-init : goal.loop-draw-init
+loop-draw-init g c = record {
+  draws = omega arith;
+  size = c.requires;
+  chain = c.begin-cursor.ensures ∙ sym (chain-begins c.args.description.now);
+  taken = Appends-nil _;
+}
+
+pub write_line-requires : goal.write_line-requires
+unfolding line_at
+write_line-requires g c =
+    let put = c.put_line-end in
+    let l = c.loop-draw in
+    let in-chain = c.advance-link.ensures.in_chain l.draw l.invariant.chain in
+    let same = ap₂ (λ d a. line_for d l.draw a) c.digits_of-digits.ensures.0 in-chain.0 in
+    subst (λ text. Front text put.result put.new.text) same put.ensures
+
+pub returns-in_default : goal.returns-in_default
+returns-in_default g c =
+    let l = c.loop-draw in (
+      l.draw + 1,
+      subst (Appends _ _) (sym (next-line c.args.description.now l.draw)) (Appends-trans _ _ _ _ _ l.invariant.taken c.in_ok-write_line.ensures),
+    )
+
+pub loop-draw-preserved : goal.loop-draw-preserved
+loop-draw-preserved g c =
+    let l = c.loop-draw in
+    let in-chain = c.advance-link.ensures.in_chain l.draw l.invariant.chain in
+    record {
+      draws = omega arith;
+      size = c.put_line-end.auto.text ∙ l.invariant.size;
+      chain = rw add-one in-chain.1;
+      taken = subst (Appends _ _) (sym (next-line c.args.description.now l.draw)) (Appends-trans _ _ _ _ _ l.invariant.taken c.in_ok-write_line.ensures);
+    }
