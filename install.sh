@@ -4,7 +4,7 @@
 #   ./install.sh [--prefix FOLDER]        FOLDER is /usr/local if none is given
 #
 # The environment variable DESTDIR, if it is set, is a folder to put everything below, for those who make packages. The archive is
-# target/staticlib/libpanel.a; if it is not there, rt builds it.
+# target/staticlib/libpanel.a; if it is not there, archive.sh builds it.
 set -eu
 started_in=$PWD
 cd "$(dirname "$0")"
@@ -34,7 +34,7 @@ case $prefix in
 esac
 
 archive=target/staticlib/libpanel.a
-[ -f "$archive" ] || rt staticlib panel
+[ -f "$archive" ] || ./archive.sh
 version=$(sed -n 's/^#define PANEL_VERSION "\(.*\)"$/\1/p' include/panel.h)
 
 # fill TEMPLATE FILE: the template with the prefix and the version put in. Characters that sed would read as its own are escaped.

@@ -1,7 +1,7 @@
 #!/usr/bin/env python3
 """The programs on standard input of which the first bytes come and the next read fails.
 
-    failing_reads.py FOLDER        the programs are in FOLDER
+    failing_reads.py [FOLDER]        the programs are in FOLDER, or else each in out/ of its crate
 
 The bytes lie at the end of a mapping after which nothing is mapped, and the program
 reads them through /proc/self/mem: there the kernel gives what is mapped, and then EIO.
@@ -18,7 +18,8 @@ import subprocess
 import sys
 from pathlib import Path
 
-EXAMPLES = Path(__file__).resolve().parent.parent / "examples"
+ROOT = Path(__file__).resolve().parent.parent
+EXAMPLES = ROOT / "examples"
 INPUTS = {"listoptions": "interview.bin", "drawoptions": "interview.bin",
           "callcases": "interview.cases"}
 SECONDS = 20
@@ -64,6 +65,12 @@ def require_failing(source, start, front):
     os.lseek(source, start, os.SEEK_SET)
 
 
+def built(program):
+    if len(sys.argv) > 1:
+        return Path(sys.argv[1]).resolve() / program
+    return ROOT / "crates" / program / "out" / program
+
+
 def check(program, source, title):
     done = subprocess.run([program], stdin=source, capture_output=True, timeout=SECONDS)
     error = f"{program.name}: standard input: {os.strerror(errno.EIO)}\n".encode("ascii")
@@ -73,7 +80,7 @@ def check(program, source, title):
 
 
 def main():
-    folder, runs = Path(sys.argv[1]).resolve(), 0
+    runs = 0
     source = os.open("/proc/self/mem", os.O_RDONLY)
     for program, name in INPUTS.items():
         content = (EXAMPLES / name).read_bytes()
@@ -82,7 +89,7 @@ def main():
             start = end - cut
             ctypes.memmove(start, content[:cut], cut)
             require_failing(source, start, content[:cut])
-            check(folder / program, source, f"{program} after {cut} bytes of {name}")
+            check(built(program), source, f"{program} after {cut} bytes of {name}")
             runs += 1
     print(f"failing reads: {runs} runs ended with an error line and no answer")
 

@@ -5,7 +5,7 @@ set -eu
 cd "$(dirname "$0")/.."
 
 archive=target/staticlib/libpanel.a
-[ -f "$archive" ] || rt staticlib panel
+[ -f "$archive" ] || ./archive.sh
 
 list=target/list
 work=target/library

@@ -14,7 +14,7 @@ fail() {
 }
 
 folder=${PANEL_LIB_DIR:-target/staticlib}
-test -f "$folder/libpanel.a" || fail "there is no $folder/libpanel.a; rt staticlib panel"
+test -f "$folder/libpanel.a" || fail "there is no $folder/libpanel.a; ./archive.sh"
 PANEL_LIB_DIR=$(cd "$folder" && pwd)
 export PANEL_LIB_DIR
 

@@ -5,7 +5,7 @@ The program listoptions lists in one walk; drawoptions by a chain of draws; call
 draws from a cursor that it is given; the brute-force model knows none of them.  Both
 listoptions and drawoptions must print what the model says.  From the start and from each
 row a draw of callcases must answer the next row of the list, and after the last row
-`finished`.  The programs are those in target/bin.
+`finished`.  Each program is the one in out/ of its crate.
 
     lists.py
 
@@ -30,7 +30,7 @@ from model.definitions.options import row_at
 from model.definitions.placements import verdict
 from model.definitions.rules import count_candidates
 
-PROGRAMS = ROOT / "target" / "bin"
+CRATES = ROOT / "crates"
 NUMBER = r"(0|[1-9][0-9]*)"
 ROW = re.compile(rf"{NUMBER} ([0-7]+) {NUMBER} {NUMBER} {NUMBER}")
 MOST_DRAWS = 100
@@ -47,7 +47,7 @@ def stored_texts():
 
 
 def printed(program, content):
-    done = subprocess.run([PROGRAMS / program], input=content, capture_output=True, check=True)
+    done = subprocess.run([CRATES / program / "out" / program], input=content, capture_output=True, check=True)
     require(not done.stderr, f"{program}: {done.stderr.decode(errors='replace')}")
     return done.stdout.decode("ascii").splitlines()
 

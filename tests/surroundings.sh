@@ -3,29 +3,38 @@
 # bytes; and where there is little stack.
 # Each must end by itself (20 seconds are for a machine that is busy) and without a crash, with the answer or the error line that is written down here.
 #
-#   tests/surroundings.sh [FOLDER]        the programs are in FOLDER, or else in target/bin
+#   tests/surroundings.sh [FOLDER]        the programs are in FOLDER, or else each in out/ of its crate
 set -eu
 cd "$(dirname "$0")/.."
-bin=${1:-target/bin}
+folder=${1:-}
 work=target/surroundings
 seconds=20
 count=0
 
+# built PROGRAM: where it is.
+built() {
+    if [ -n "$folder" ]; then
+        echo "$folder/$1"
+    else
+        echo "crates/$1/out/$1"
+    fi
+}
+
 for program in listoptions drawoptions labeltable callcases; do
-    test -x "$bin/$program" || { echo "surroundings: there is no $bin/$program; rt check $program" >&2; exit 1; }
+    test -x "$(built "$program")" || { echo "surroundings: there is no $(built "$program"); cd crates/$program && rt run" >&2; exit 1; }
 done
 mkdir -p "$work"
 
 # Runs a program with the standard input and output that the caller gives it; what it says on standard error is kept.
 run() {
     status=0
-    timeout "$seconds" "$bin/$1" 2>"$work/err" || status=$?
+    timeout "$seconds" "$(built "$1")" 2>"$work/err" || status=$?
 }
 
 # The same with so many kilobytes of stack.
 run_with_stack() {
     status=0
-    (ulimit -s "$1" && exec timeout "$seconds" "$bin/$2") 2>"$work/err" || status=$?
+    (ulimit -s "$1" && exec timeout "$seconds" "$(built "$2")") 2>"$work/err" || status=$?
 }
 
 fail() {
@@ -105,7 +114,7 @@ run callcases </proc/self/mem >"$work/out"
 settle 'callcases on memory that is not there' '' 'callcases: standard input: '
 
 # The first bytes come, and the next read fails.
-python3 tests/failing_reads.py "$bin"
+python3 tests/failing_reads.py ${folder:+"$folder"}
 
 # What cannot be written is said on standard error, once.
 : >"$work/out"

@@ -15,7 +15,7 @@ pub struct Program<'a> {
 }
 
 /// The engine's program for Draw and other calls, from the repository's root.
-pub const CALLCASES: Program = Program::new("target/bin/callcases", &[]);
+pub const CALLCASES: Program = Program::new("crates/callcases/out/callcases", &[]);
 
 impl<'a> Program<'a> {
     pub const fn new(path: &'a str, words: &'a [&'a str]) -> Self {

@@ -20,7 +20,7 @@ use bench::measure::{CALLCASES, Program, agree, least, ratios, store};
 use panel::calls::{LIST, SCRATCH, list};
 use reference::options::sorted_options;
 
-const LISTOPTIONS: Program = Program::new("target/bin/listoptions", &[]);
+const LISTOPTIONS: Program = Program::new("crates/listoptions/out/listoptions", &[]);
 const WALK: Program = Program::new("target/bench/release/walk", &[]);
 const PLAIN: Program = Program::new("target/bench/release/brute", &["plain"]);
 const OPTIONS: Program = Program::new("target/bench/release/brute", &["options"]);
