@@ -14,7 +14,7 @@ use std::io::{Error, Read};
 use survey::Cursor;
 
 // The offset after the case's line in the output; or it is no case; or a read failed.
-#[derive(Drop)]
+#[derive(Clone, Copy)]
 pub enum Reply {
     Line(usize),
     Bad,
@@ -153,7 +153,7 @@ fn number_of(b: [u8; 8]) -> u64 {
 }
 
 // The two calls that write to a lent buffer.
-#[derive(Drop)]
+#[derive(Clone, Copy)]
 enum Lending {
     Transfers,
     Picture,

@@ -6,7 +6,7 @@ use standard_input::{Input, read_full};
 use std::io::{Error, Read};
 
 // How a part was read: all of it; less, because the input ended; or a read failed.
-#[derive(Drop)]
+#[derive(Clone, Copy)]
 pub enum Part {
     Whole,
     Cut,

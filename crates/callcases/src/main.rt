@@ -1,7 +1,8 @@
 // Answers the cases on standard input, each with one line on standard output.
 #![tactic(auto)]
 
-ghost use Rattle.std.specs.Prelude.{◌+◌, ◌≤◌, IfOk};
+ghost use Rattle.std.specs.Prelude.{◌+◌, ◌≤◌, IfErr, IfOk};
+ghost use Rattle.standard_input.specs.Failures.{OfOutput, NotWritten, Grows};
 ghost use Rattle.callcases.specs.Room.{size, line, Within, Roomy};
 
 mod buffer;
@@ -18,7 +19,7 @@ use standard_input::{Failure, Input, report};
 use std::io::{Read, Write};
 
 // What to do after a case: go on, with the offset after the output that is not yet written, or end.
-#[derive(Drop)]
+#[derive(Clone, Copy)]
 enum Turn {
     Next(usize),
     End,
@@ -27,7 +28,9 @@ enum Turn {
 // Writes the output that is ready, and ends.
 fn finish<W: Write>(writer: &mut W, out: &Buffer, at: usize) -> Result<Turn, Failure>
     requires { at ≤ size }
-    ensures { IfOk result Roomy }
+    ensures room { IfOk result Roomy }
+    ensures error { IfErr result OfOutput }
+    ensures kept { Grows (W.contents writer.old) (W.contents writer.new) }
 {
     flush(writer, out, at)?;
     Ok(Turn::End)
@@ -36,7 +39,9 @@ fn finish<W: Write>(writer: &mut W, out: &Buffer, at: usize) -> Result<Turn, Fai
 // Reports that what was read is no case, and ends.
 fn bad_case<W: Write>(writer: &mut W, out: &mut Buffer, at: usize) -> Result<Turn, Failure>
     requires { at + line ≤ size }
-    ensures { IfOk result Roomy }
+    ensures room { IfOk result Roomy }
+    ensures error { IfErr result OfOutput }
+    ensures kept { Grows (W.contents writer.old) (W.contents writer.new) }
 {
     let at = output::put(out, at, b"bad case\n");
     finish(writer, out, at)
@@ -45,7 +50,9 @@ fn bad_case<W: Write>(writer: &mut W, out: &mut Buffer, at: usize) -> Result<Tur
 // Writes the output if another line might not fit after it.
 fn make_room<W: Write>(writer: &mut W, out: &Buffer, at: usize) -> Result<Turn, Failure>
     requires { at ≤ size }
-    ensures { IfOk result Roomy }
+    ensures room { IfOk result Roomy }
+    ensures error { IfErr result OfOutput }
+    ensures kept { Grows (W.contents writer.old) (W.contents writer.new) }
 {
     if at + LINE <= SIZE {
         return Ok(Turn::Next(at));
@@ -62,7 +69,9 @@ fn after_reply<W: Write>(
 ) -> Result<Turn, Failure>
     requires line_bound { at + line ≤ size }
     requires within { Within reply }
-    ensures { IfOk result Roomy }
+    ensures room { IfOk result Roomy }
+    ensures unread { IfErr result (λ e. NotWritten e (W.contents writer.old) (W.contents writer.new)) }
+    ensures kept { Grows (W.contents writer.old) (W.contents writer.new) }
 {
     match reply {
         Reply::Line(end) => make_room(writer, out, end),
@@ -101,7 +110,9 @@ fn next_case<R: Read, W: Write>(
     at: usize,
 ) -> Result<Turn, Failure>
     requires { at + line ≤ size }
-    ensures { IfOk result Roomy }
+    ensures room { IfOk result Roomy }
+    ensures unread { IfErr result (λ e. NotWritten e (W.contents writer.old) (W.contents writer.new)) }
+    ensures kept { Grows (W.contents writer.old) (W.contents writer.new) }
 {
     let mut header = [0u8; 3];
     let got = match input::read_some(reader, &mut header) {
@@ -125,7 +136,9 @@ fn answer_all<R: Read, W: Write>(
     writer: &mut W,
     space: &mut Buffer,
     out: &mut Buffer,
-) -> Result<(), Failure> {
+) -> Result<(), Failure>
+    ensures { Grows (W.contents writer.old) (W.contents writer.new) }
+{
     let mut at = 0;
     let mut turns = u64::MAX;
     while turns > 0 {

@@ -1,22 +1,23 @@
 // Standard output, collected in a buffer so that many lines take one write. A `put` function starts at an offset of the buffer and answers
 // the offset after what it put.
-ghost use Rattle.std.specs.Prelude.{◌+◌, ◌*◌, ◌≤◌, ◌<◌, ◌≡◌, length, take, OnOk, IfErr};
+ghost use Rattle.std.specs.Prelude.{◌+◌, ◌*◌, ◌≤◌, ◌<◌, ◌≡◌, length, take, OnOk, OnErr, IfErr};
 ghost use Rattle.std.specs.Char.{digit_char};
 ghost use Rattle.std.specs.Io.KnownBytes.{Appends};
 ghost use Rattle.callcases.specs.Room.{size};
-ghost use Rattle.standard_input.specs.Failures.{OfOutput};
+ghost use Rattle.standard_input.specs.Failures.{OfOutput, BreaksOff};
 
 use crate::buffer::{Buffer, front};
-use standard_input::Failure;
+use standard_input::{Failure, write_full};
 use std::io::Write;
 
 // Writes the bytes before the offset.
 pub fn flush<W: Write>(writer: &mut W, out: &[u8], at: usize) -> Result<(), Failure>
     requires { at ≤ length out.now }
     ensures bytes { OnOk result (Appends (W.contents writer.old) (W.contents writer.new) (take at out.now)) }
+    ensures broken { OnErr result (BreaksOff (W.contents writer.old) (W.contents writer.new) (take at out.now)) }
     ensures error { IfErr result OfOutput }
 {
-    match writer.write_all(front(out, at)) {
+    match write_full(writer, front(out, at)) {
         Ok(()) => Ok(()),
         Err(error) => Err(Failure::Output(error)),
     }

@@ -7,8 +7,9 @@ use mathlib.Core.Path.{◌≡◌, sym, ap, ap₂, subst, ◌∙◌}
 use mathlib.Core.List.{List, [], ◌∷◌, ◌++◌, map, append-nil, map-append}
 use lib.ListN.{length, take, drop, length-append, length-take}
 use lib.Seq.{take_at, take_all, take-append_seam}
-use Rattle.std.specs.Prelude.{Option, None, Some, IfSome}
+use Rattle.std.specs.Prelude.{Option, None, Some, IfSome, Result as StdResult, Ok, Err, OnErr}
 use Rattle.std.specs.Io.KnownBytes.{Appends, Consumes, IsAtEnd}
+use Rattle.standard_input.specs.Failures.{BreaksOff}
 use borrow.Author.Tests.{le-leb}
 use Rattle.list_text.specs.Lines.{placed, placed_end, written}
 use Rattle.list_text.specs.RowLines.{words_line, rows_text}
@@ -43,6 +44,11 @@ next-line s n =
     joined-append (map (line_at s) (below n)) (line_at s (0 + n) ∷ []) ∙
     ap (λ l. lines_before s n ++ l) (append-nil (line_at s (0 + n)) ∙ ap (line_at s) (zero-add n))
 
+-- what holds anyway holds after an error
+pub on_err : {T E P : Type 0} (r : StdResult T E) → P → OnErr r P
+on_err (Ok x) p = tt
+on_err (Err e) p = p
+
 -- what was read is all that the reader had left, or as much of it as fits
 read-front : (P : List ℕ → Type 0) (old new : Option (List ℕ)) (space : List ℕ) (count : ℕ) → length space ≡ 4096 → count ≤ length space
     → Consumes old new (take count space) → (count < length space → IsAtEnd new) → P (take count space) → IfSome old (λ s. P (take 4096 s))
@@ -65,3 +71,9 @@ pub read-lines : (old new : Option (List ℕ)) (space : List ℕ) (count : ℕ) 
     → Consumes old new (take count space) → (count < length space → IsAtEnd new)
     → (n : ℕ) × Appends held after (lines_before (take count space) n) → IfSome old (λ s. (n : ℕ) × Appends held after (lines_before (take 4096 s) n))
 read-lines old new space count held after = read-front (λ s. (n : ℕ) × Appends held after (lines_before s n)) old new space count
+
+-- and those that broke off
+pub read-broken : (old new : Option (List ℕ)) (space : List ℕ) (count : ℕ) (held after : Option (List ℕ)) → length space ≡ 4096 → count ≤ length space
+    → Consumes old new (take count space) → (count < length space → IsAtEnd new)
+    → (n : ℕ) × BreaksOff held after (lines_before (take count space) n) → IfSome old (λ s. (n : ℕ) × BreaksOff held after (lines_before (take 4096 s) n))
+read-broken old new space count held after = read-front (λ s. (n : ℕ) × BreaksOff held after (lines_before s n)) old new space count

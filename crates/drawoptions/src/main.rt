@@ -2,8 +2,9 @@
 // prints, and is there to be compared with it: a draw is a walk over all placements, so a long list takes a long time.
 #![tactic(auto)]
 
-ghost use Rattle.std.specs.Prelude.{◌≤◌, min, ◌≡◌, ℕ, length, take, IfSome, OnOk};
+ghost use Rattle.std.specs.Prelude.{◌≤◌, min, ◌≡◌, ℕ, length, take, IfErr, IfSome, OnErr, OnOk};
 ghost use Rattle.std.specs.Io.KnownBytes.{Appends};
+ghost use Rattle.standard_input.specs.Failures.{BreaksOff, NotWritten, OfOutput};
 ghost use Rattle.packing.specs.Packing.{pack};
 ghost use Rattle.judging.specs.Calls.{read_call};
 ghost use Rattle.lister.specs.Answers.{draw_answer};
@@ -13,7 +14,7 @@ use costs::answers::Bill;
 use judging::answers::Acceptance;
 use list_text::rows::put_rows;
 use lister::{Answer, Drawn, chain};
-use standard_input::{Failure, Input, read_full, report};
+use standard_input::{Failure, Input, read_full, report, write_full};
 use std::io;
 use std::io::{Read, Write};
 use survey::Row;
@@ -106,16 +107,18 @@ fn write_line<W: Write>(
     end: usize,
 ) -> io::Result<()>
     requires { Front (line_at description.now draw) end text.now }
-    ensures { OnOk result (Appends (W.contents out.old) (W.contents out.new) (line_at description.now draw)) }
+    ensures ok { OnOk result (Appends (W.contents out.old) (W.contents out.new) (line_at description.now draw)) }
+    ensures err { OnErr result (BreaksOff (W.contents out.old) (W.contents out.new) (line_at description.now draw)) }
 {
-    out.write_all(&text[..end])
+    write_full(out, &text[..end])
 }
 
 // Draws until there is no row, and writes a line for each draw: a row, and at the end how many there were, or why there is none. The clause says
 // that whole lines come, from the first draw on and in order; how many draws there are it leaves open.
 fn write_draws<W: Write>(out: &mut W, description: &[u8], text: &mut [u8]) -> io::Result<()>
     requires { length text.old ≡ line_bytes }
-    ensures { OnOk result ((n : ℕ) × Appends (W.contents out.old) (W.contents out.new) (lines_before description.now n)) }
+    ensures ok { OnOk result ((n : ℕ) × Appends (W.contents out.old) (W.contents out.new) (lines_before description.now n)) }
+    ensures err { OnErr result ((n : ℕ) × BreaksOff (W.contents out.old) (W.contents out.new) (lines_before description.now n)) }
 {
     let digits = digits_of(description);
     let mut cursor = chain::begin();
@@ -143,9 +146,13 @@ fn space() -> [u8; SPACE]
 }
 
 // Draws the rows of the description that is read. As in `listoptions`, what does not fit into the space need not be read.
+// After a read that failed nothing was written; after a write that failed, the first bytes of the lines.
 fn draw_input<R: Read, W: Write>(reader: &mut R, out: &mut W) -> Result<(), Failure>
-    ensures { OnOk result (IfSome (R.remaining reader.old)
+    ensures ok { OnOk result (IfSome (R.remaining reader.old)
         (λ s. (n : ℕ) × Appends (W.contents out.old) (W.contents out.new) (lines_before (take 4096 s) n))) }
+    ensures unread { IfErr result (λ e. NotWritten e (W.contents out.old) (W.contents out.new)) }
+    ensures broken { IfErr result (λ e. OfOutput e → IfSome (R.remaining reader.old)
+        (λ s. (n : ℕ) × BreaksOff (W.contents out.old) (W.contents out.new) (lines_before (take 4096 s) n))) }
 {
     let mut space = space();
     let count = match read_full(reader, &mut space) {

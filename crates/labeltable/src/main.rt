@@ -1,12 +1,13 @@
 // Prints the table of labels: each row as 64 digits and a newline byte.
 #![tactic(auto)]
 
-ghost use Rattle.std.specs.Prelude.{◌<◌, ◌≡◌, replicate, OnOk};
+ghost use Rattle.std.specs.Prelude.{◌<◌, ◌≡◌, replicate, OnErr, OnOk};
 ghost use Rattle.std.specs.Io.KnownBytes.{Appends};
+ghost use Rattle.standard_input.specs.Failures.{BreaksOff};
 ghost use Rattle.labeltable.specs.Printed.{byte_at, printed};
 
 use labels::{LABELS, covers};
-use standard_input::{Failure, report};
+use standard_input::{Failure, report, write_full};
 use std::io;
 use std::io::Write;
 
@@ -49,12 +50,14 @@ fn text() -> [u8; TEXT]
 }
 
 // Hands the text to the writer; nothing else does. No contract can say what becomes of bytes that standard output took, so this one asks
-// before: the text is the table, all of it. A writer whose bytes are known has the table after them.
+// before: the text is the table, all of it. A writer whose bytes are known has the table after them, or its first bytes if a
+// write failed.
 fn write_table<W: Write>(out: &mut W, text: &[u8]) -> io::Result<()>
     requires { text.now ≡ printed }
-    ensures { OnOk result (Appends (W.contents out.old) (W.contents out.new) printed) }
+    ensures ok { OnOk result (Appends (W.contents out.old) (W.contents out.new) printed) }
+    ensures err { OnErr result (BreaksOff (W.contents out.old) (W.contents out.new) printed) }
 {
-    out.write_all(text)
+    write_full(out, text)
 }
 
 fn main(rt: HostRuntime) {

@@ -29,6 +29,8 @@ use Rattle.whole_list.proofs.Sorted.{listed-words, listed-length}
 use Rattle.list_text.specs.Lines.{ascii, digit, decimal, amount_text, row_line, options_line, written}
 use Rattle.list_text.specs.RowLines.{words_line, lines_of, rows_text}
 use Rattle.list_text.proofs.RowLines.{words-line, taken-apart}
+use Rattle.standard_input.specs.Failures.{BreaksOff}
+use Rattle.standard_input.proofs.Breaking.{broken_behind}
 use Rattle.listoptions.specs.Printed.{row_lines, printed_for, printed}
 use Rattle.listoptions.specs.Making.{held_words, held_keys, held_bytes, page_rows, rows_of, blocks_of, lines_in, page_text, last_line, BeginsWith, NextBytes}
 
@@ -184,19 +186,45 @@ next-bytes front part rest {text} {done} e d =
     let behind = sym (drop-append_seam front (part ++ rest)) ∙ ap (drop (length front)) (sym (append_assoc front part rest) ∙ e) in
     sym (take-append_seam part rest) ∙ ap (take (length part)) (behind ∙ ap (λ n. drop n text) (sym d))
 
+-- the lines of the rows behind page k
+abbrev lines_behind : (blocks k : ℕ) → List ℕ → List ℕ
+lines_behind blocks k words = lines_of (min blocks 16) (take (length words * 5) (drop ((k + 1) * page_rows * 5) words))
+
+-- the lines are those of the pages before page k, page k and what is behind it
+lines-by-page : (blocks k : ℕ) (words : List ℕ)
+    → lines_in blocks words ≡ (lines_in blocks (take (k * page_rows * 5) words) ++ page_text blocks words k) ++ lines_behind blocks k words
+lines-by-page blocks k words =
+    let b = min blocks 16 in
+    let m = (k + 1) * page_rows in
+    let n = length words in
+    ap (lines_of b) (sym (take_all ((m + n) * 5) words (omega arith))) ∙ taken-apart b m n words ∙
+    ap (λ l. l ++ lines_behind blocks k words) (next-page blocks k words)
+
 -- for pages: page k comes after the lines of the pages before it
 pub page-next : (blocks k : ℕ) (words : List ℕ) {text : List ℕ} {done : ℕ} → BeginsWith text (lines_in blocks words)
     → done ≡ length (lines_in blocks (take (k * page_rows * 5) words)) → NextBytes text done (page_text blocks words k)
 page-next blocks k words (rest, e) d =
-    let b = min blocks 16 in
-    let m = (k + 1) * page_rows in
-    let n = length words in
     let front = lines_in blocks (take (k * page_rows * 5) words) in
     let page = page_text blocks words k in
-    let more = lines_of b (take (n * 5) (drop (m * 5) words)) in
-    let all : lines_in blocks words ≡ (front ++ page) ++ more =
-    ap (lines_of b) (sym (take_all ((m + n) * 5) words (omega arith))) ∙ taken-apart b m n words ∙ ap (λ l. l ++ more) (next-page blocks k words) in
-    next-bytes front page (more ++ rest) (sym (append_assoc (front ++ page) more rest) ∙ ap (λ l. l ++ rest) (sym all) ∙ e) d
+    let more = lines_behind blocks k words in
+    next-bytes front page (more ++ rest) (sym (append_assoc (front ++ page) more rest) ∙ ap (λ l. l ++ rest) (sym (lines-by-page blocks k words)) ∙ e) d
+
+-- the lines broke off if page k did, after those of the pages before it
+pub page-broken : (blocks k : ℕ) (words : List ℕ) (a b c : Option (List ℕ)) → Appends a b (lines_in blocks (take (k * page_rows * 5) words))
+    → BreaksOff b c (page_text blocks words k) → BreaksOff a c (lines_in blocks words)
+page-broken blocks k words a b c written broken =
+    let front = lines_in blocks (take (k * page_rows * 5) words) in
+    let page = page_text blocks words k in
+    let more = lines_behind blocks k words in
+    subst (BreaksOff a c) (sym (lines-by-page blocks k words ∙ append_assoc front page more)) (broken_behind a b c front page more written broken)
+
+-- nothing is said of an error that is not there
+pub no-error : {E : Type 0} (P : E → Type 0) (failed : Option E) → failed ≡ None → IfSome failed P
+no-error P failed h = subst (λ o. IfSome o P) (sym h) tt
+
+-- and of the one that is there it is so
+pub with-error : {E : Type 0} (Q : Type 0) (failed : Option E) (e : E) → IfSome failed (λ x. Q) → failed ≡ Some e → Q
+with-error Q failed e q h = subst (λ o. IfSome o (λ x. Q)) h q
 
 -- what did not fail has no error
 pub not-failed : {E : Type 0} (failed : Option E) → is_some failed ≡ false → failed ≡ None
@@ -216,13 +244,12 @@ pub printed-front : (s : List ℕ) (n : ℕ) → deciding_bytes ≤ n → printe
 unfolding printed
 printed-front s n h = ap printed_for (read-front s n h)
 
--- what a reader has left is printed if what was read of it is: all of it, or as much as fits
-pub read-decides : (old new : Option (List ℕ)) (space : List ℕ) (count : ℕ) (held after : Option (List ℕ)) → length space ≡ 4096 → count ≤ length space
-    → Consumes old new (take count space) → (count < length space → IsAtEnd new) → Appends held after (printed (take count space))
-    → IfSome old (λ s. Appends held after (printed s))
-read-decides None new space count held after size few e end p = tt
-read-decides (Some s) None space count held after size few e end p = absurd e
-read-decides (Some s) (Some rest) space count held after size few e end p =
+-- what is so of the text that is printed for what was read is so of that for what a reader had left: all of it was read, or as much as fits
+pub read-decides : (P : List ℕ → Type 0) (old new : Option (List ℕ)) (space : List ℕ) (count : ℕ) → length space ≡ 4096 → count ≤ length space
+    → Consumes old new (take count space) → (count < length space → IsAtEnd new) → P (printed (take count space)) → IfSome old (λ s. P (printed s))
+read-decides P None new space count size few e end p = tt
+read-decides P (Some s) None space count size few e end p = absurd e
+read-decides P (Some s) (Some rest) space count size few e end p =
     let came = take count space in
     let same : printed came ≡ printed s = elim (dec_lt count (length space)) [
       | yes l ↦ ap printed (sym (e ∙ ap (λ l. came ++ l) (end l) ∙ append-nil came))
@@ -230,4 +257,4 @@ read-decides (Some s) (Some rest) space count held after size few e end p =
           let full : length came ≡ 4096 = omega (arith, length-take count space) in
           ap printed (sym (ap (take 4096) e ∙ take_at came rest 4096 full)) ∙ printed-front s 4096 (omega arith)
     ] in
-    subst (Appends held after) same p
+    subst P same p

@@ -1,6 +1,7 @@
 -- How the program makes what it prints: pages of the lines of the rows that List leaves, and a last line for its answer.
-use Rattle.std.specs.Prelude.{ℕ, ◌*◌, min, ◌≡◌, Option, None, List, ◌++◌, length, take, drop}
+use Rattle.std.specs.Prelude.{ℕ, ◌*◌, min, ◌≡◌, Option, None, IfSome, List, ◌++◌, length, take, drop}
 use Rattle.std.specs.Io.KnownBytes.{Appends}
+use Rattle.standard_input.specs.Failures.{BreaksOff}
 use Rattle.list_text.specs.Lines.{options_line, refusal_line}
 use Rattle.list_text.specs.RowLines.{words_of_row, bytes_of_line, lines_of}
 use Rattle.whole_list.specs.WholeList.{most_words}
@@ -56,3 +57,7 @@ Whole sent text = sent.failed ≡ None → sent.bytes ≡ length text
 -- and if its bytes are known, they have become the ones before and then the text
 abbrev pub Taken : Sent → (old new : Option (List ℕ)) → (text : List ℕ) → Type 0
 Taken sent old new text = sent.failed ≡ None → Appends old new text
+
+-- if it did not take all, it took the first ones
+abbrev pub BrokeOff : Sent → (old new : Option (List ℕ)) → (text : List ℕ) → Type 0
+BrokeOff sent old new text = IfSome sent.failed (λ _. BreaksOff old new text)

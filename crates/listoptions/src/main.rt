@@ -2,18 +2,18 @@
 // page by page, so that the text of 65,536 rows needs no room of its own on the stack.
 #![tactic(auto)]
 
-ghost use Rattle.std.specs.Prelude.{◌+◌, ◌*◌, ◌≤◌, ◌≡◌, length, take, IfSome, OnOk, IfErr};
+ghost use Rattle.std.specs.Prelude.{◌+◌, ◌*◌, ◌≤◌, ◌≡◌, length, take, IfErr, IfSome, OnOk};
 ghost use Rattle.std.specs.Io.KnownBytes.{Appends};
-ghost use Rattle.standard_input.specs.Failures.{NotWritten};
+ghost use Rattle.standard_input.specs.Failures.{NotWritten, OfOutput, BreaksOff};
 ghost use Rattle.whole_list.specs.WholeList.{list_answer};
 ghost use Rattle.list_text.specs.Lines.{written};
 ghost use Rattle.list_text.specs.RowLines.{words_of_row};
 ghost use Rattle.listoptions.specs.Making.{held_words, held_keys, held_bytes, page_rows, rows_of, blocks_of, last_line, page_text};
-ghost use Rattle.listoptions.specs.Making.{lines_in, BeginsWith, NextBytes, Whole, Taken};
+ghost use Rattle.listoptions.specs.Making.{lines_in, BeginsWith, NextBytes, Whole, Taken, BrokeOff};
 ghost use Rattle.listoptions.specs.Printed.{printed};
 
 use list_text::rows::put_rows;
-use standard_input::{Failure, Input, read_full, report};
+use standard_input::{Failure, Input, read_full, report, write_full};
 use std::io::{Error, Read, Write};
 use whole_list::{Extent, Listed, ROW_WORDS};
 
@@ -31,7 +31,7 @@ const PAGE_ROWS: usize = 1024;
 const PAGE_BYTES: usize = 103424;
 
 // How many bytes the writer was given, and the error if it did not take them all.
-#[derive(Drop)]
+#[derive(Clone, Copy)]
 struct Sent {
     failed: Option<Error>,
     bytes: usize,
@@ -82,9 +82,10 @@ fn write_next<W: Write>(
     requires next_bytes { NextBytes (printed description.now) sent.bytes (take end text.now) }
     ensures bytes { result.bytes ≡ sent.bytes + end }
     ensures taken { Taken result (W.contents out.old) (W.contents out.new) (take end text.now) }
+    ensures broken { BrokeOff result (W.contents out.old) (W.contents out.new) (take end text.now) }
 {
     let bytes = sent.bytes + end;
-    let failed = out.write_all(&text[..end]).err();
+    let failed = write_full(out, &text[..end]).err();
     Sent { failed, bytes }
 }
 
@@ -101,6 +102,7 @@ fn write_pages<W: Write>(
     ensures whole { Whole result (lines_in blocks rows.now) }
     ensures bytes_bound { result.bytes ≤ 64 * held_bytes }
     ensures taken { Taken result (W.contents out.old) (W.contents out.new) (lines_in blocks rows.now) }
+    ensures broken { BrokeOff result (W.contents out.old) (W.contents out.new) (lines_in blocks rows.now) }
 {
     let mut sent = Sent {
         failed: None,
@@ -129,6 +131,7 @@ fn write_list<W: Write>(
     requires { (length rows.old ≡ held_words) × (length scratch.old ≡ held_keys) × (length text.old ≡ held_bytes) }
     ensures whole { Whole result (printed description.now) }
     ensures taken { Taken result (W.contents out.old) (W.contents out.new) (printed description.now) }
+    ensures broken { BrokeOff result (W.contents out.old) (W.contents out.new) (printed description.now) }
 {
     let listed = whole_list::list(description, rows, scratch);
     let extent = extent_of(listed);
@@ -172,10 +175,13 @@ fn space() -> [u8; SPACE]
 }
 
 // Prints the list of the description that is read. Where the bytes of the reader and of the writer are known, the ones are the description
-// and the others are what is printed for it. After a read that failed nothing was written.
+// and the others are what is printed for it. After a read that failed nothing was written;
+// after a write that failed, the first bytes of what is printed.
 fn list_input<R: Read, W: Write>(reader: &mut R, out: &mut W) -> Result<(), Failure>
     ensures bytes { OnOk result (IfSome (R.remaining reader.old) (λ s. Appends (W.contents out.old) (W.contents out.new) (printed s))) }
-    ensures error { IfErr result (λ e. NotWritten e (W.contents out.old) (W.contents out.new)) }
+    ensures unread { IfErr result (λ e. NotWritten e (W.contents out.old) (W.contents out.new)) }
+    ensures broken { IfErr result (λ e. OfOutput e →
+        IfSome (R.remaining reader.old) (λ s. BreaksOff (W.contents out.old) (W.contents out.new) (printed s))) }
 {
     let mut space = space();
     let count = match read_full(reader, &mut space) {

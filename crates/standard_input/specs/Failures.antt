@@ -1,6 +1,6 @@
 -- What a failure of a stream says of the writer.
-use Rattle.std.specs.Prelude.{ℕ, List, Option, ⊤}
-use Rattle.std.specs.Io.KnownBytes.{Keeps}
+use Rattle.std.specs.Prelude.{ℕ, ◌<◌, List, Option, length, take, ⊤}
+use Rattle.std.specs.Io.KnownBytes.{Appends, Keeps}
 use Rattle.standard_input.specs.declared.Failure.{Failure}
 use Rattle.standard_input.specs.declared.Failure.TheVariants.{Input, Output}
 
@@ -13,3 +13,11 @@ OfOutput (Output error) = ⊤
 abbrev pub NotWritten : Failure → (old new : Option (List ℕ)) → Type 0
 NotWritten (Input error) old new = Keeps old new
 NotWritten (Output error) old new = ⊤
+
+-- a write that failed broke off: of a writer whose bytes are known, they are the ones before and then a first part of the text, not all of it
+abbrev pub BreaksOff : (old new : Option (List ℕ)) → (text : List ℕ) → Type 0
+BreaksOff old new text = (n : ℕ) × (n < length text) × Appends old new (take n text)
+
+-- of a writer whose bytes are known, those that it had stay in front, whatever was written after them
+abbrev pub Grows : (old new : Option (List ℕ)) → Type 0
+Grows old new = (text : List ℕ) × Appends old new text

@@ -1,14 +1,17 @@
-// How the programs read standard input, and how they say what failed.
+// How the programs read standard input and write standard output, and how they say what failed.
 #![tactic(auto)]
 
 ghost use Rattle.standard_input.specs.Counts.{Counted, Taken};
 
+mod writing;
+
 use arrayvec::ArrayString;
 use std::fmt::Write;
 use std::io::{Error, Read};
+pub use writing::write_full;
 
 // How many bytes were read, or why a read failed.
-#[derive(Drop)]
+#[derive(Clone, Copy)]
 pub enum Input {
     Bytes(usize),
     Failed(Error),
@@ -35,7 +38,7 @@ pub fn read_full<R: Read>(reader: &mut R, buffer: &mut [u8]) -> Input
 }
 
 // Which stream of a program failed, and why.
-#[derive(Drop)]
+#[derive(Clone, Copy)]
 pub enum Failure {
     Input(Error),
     Output(Error),

@@ -2,9 +2,11 @@
 use Rattle.std.proofs.Common.{◌+◌, arith, add-one, sym, ap₂, subst, ◌∙◌}
 use Rattle.std.specs.Io.KnownBytes.{Appends}
 use Rattle.std.proofs.KnownBytes.{Appends-nil, Appends-trans}
+use Rattle.standard_input.specs.Failures.{BreaksOff}
+use Rattle.standard_input.proofs.Breaking.{broken_last}
 use Rattle.lister.proofs.Chained.{chain-begins}
-use Rattle.drawoptions.specs.Drawing.{line_for, line_at, Front}
-use Rattle.drawoptions.proofs.Lines.{next-line}
+use Rattle.drawoptions.specs.Drawing.{line_for, line_at, lines_before, Front}
+use Rattle.drawoptions.proofs.Lines.{next-line, on_err}
 use Rattle.drawoptions.proofs.write_draws.Goals as goal
 
 pub loop-draw-init : goal.loop-draw-init
@@ -24,11 +26,19 @@ write_line-requires g c =
     let same = ap₂ (λ d a. line_for d l.draw a) c.digits_of-digits.ensures.0 in-chain.0 in
     subst (λ text. Front text put.result put.new.text) same put.ensures
 
-pub returns-in_default : goal.returns-in_default
-returns-in_default g c =
+-- a line that broke off comes after the lines of the draws before it
+pub returns-in_err-write_line-clause-err : goal.returns-in_err-write_line-clause-err
+returns-in_err-write_line-clause-err g c =
+    let l = c.loop-draw in
+    let s = c.args.description.now in
+    let broken = broken_last _ _ _ (lines_before s l.draw) (line_at s l.draw) l.invariant.taken c.in_err-write_line.ensures.err in
+    on_err c.from_residual.result (l.draw + 1, subst (BreaksOff _ _) (sym (next-line s l.draw)) broken)
+
+pub returns-in_default-clause-ok : goal.returns-in_default-clause-ok
+returns-in_default-clause-ok g c =
     let l = c.loop-draw in (
       l.draw + 1,
-      subst (Appends _ _) (sym (next-line c.args.description.now l.draw)) (Appends-trans _ _ _ _ _ l.invariant.taken c.in_ok-write_line.ensures),
+      subst (Appends _ _) (sym (next-line c.args.description.now l.draw)) (Appends-trans _ _ _ _ _ l.invariant.taken c.in_ok-write_line.ensures.ok),
     )
 
 pub loop-draw-preserved : goal.loop-draw-preserved
@@ -39,5 +49,5 @@ loop-draw-preserved g c =
       draws = omega arith;
       size = c.put_line-end.auto.text ∙ l.invariant.size;
       chain = rw add-one in-chain.1;
-      taken = subst (Appends _ _) (sym (next-line c.args.description.now l.draw)) (Appends-trans _ _ _ _ _ l.invariant.taken c.in_ok-write_line.ensures);
+      taken = subst (Appends _ _) (sym (next-line c.args.description.now l.draw)) (Appends-trans _ _ _ _ _ l.invariant.taken c.in_ok-write_line.ensures.ok);
     }

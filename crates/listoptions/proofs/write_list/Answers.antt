@@ -2,6 +2,9 @@
 use Rattle.std.proofs.Common.{◌≡◌, ℕ, ◌+◌, ◌*◌, ◌≤◌, List, [], ◌++◌, arith, sym, ap, ap₂, subst, ◌∙◌, length, take, length-take, length-append, append-nil}
 use Rattle.std.specs.Io.KnownBytes.{Appends}
 use Rattle.std.proofs.KnownBytes.{Appends-trans}
+use Rattle.std.proofs.lemmas.Option.{IfSome_then}
+use Rattle.standard_input.specs.Failures.{BreaksOff}
+use Rattle.standard_input.proofs.Breaking.{broken_within, broken_last}
 use Rattle.decoding.specs.Bytes.{Bytes}
 use Rattle.sequences.specs.Results.{Result}
 use Rattle.whole_list.specs.WholeList.{capacity, list_answer, list_call, rows_after}
@@ -85,3 +88,28 @@ returns-clause-taken g c none =
     let handed = subst (Appends _ _) (front-is last _ c.put_last-end.ensures.value c.put_last-end.ensures.text_after) (c.write_next.ensures.taken none) in
     subst (Appends _ _) all
     (Appends-trans _ _ _ front last (pages.ensures.taken (not-failed pages.result.failed (sym c.if-is_some.ensures))) handed)
+
+pub returns-then-is_some-clause-broken : goal.returns-then-is_some-clause-broken
+returns-then-is_some-clause-broken g c =
+    let list = c.list-listed in
+    let extent = c.extent_of-extent in
+    let front = lines_in extent.result.blocks (take (extent.result.rows * 5) list.new.rows) in
+    let last = last_line (list_answer list.result) in
+    let all = together c.args.description.now c.args.rows.now c.args.scratch.now c.requires.0 c.requires.1 list.ensures.result_value
+    (λ i. (c.type_inv.description i).fits) list.ensures.rows_after extent.ensures.0 extent.ensures.1 in
+    IfSome_then c.write_pages-sent.result.failed c.write_pages-sent.ensures.broken (λ e broken.
+    subst (BreaksOff _ _) all (broken_within _ _ front last broken))
+
+pub returns-clause-broken : goal.returns-clause-broken
+returns-clause-broken g c =
+    let list = c.list-listed in
+    let extent = c.extent_of-extent in
+    let pages = c.write_pages-sent in
+    let front = lines_in extent.result.blocks (take (extent.result.rows * 5) list.new.rows) in
+    let last = last_line (list_answer list.result) in
+    let all = together c.args.description.now c.args.rows.now c.args.scratch.now c.requires.0 c.requires.1 list.ensures.result_value
+    (λ i. (c.type_inv.description i).fits) list.ensures.rows_after extent.ensures.0 extent.ensures.1 in
+    let written = pages.ensures.taken (not-failed pages.result.failed (sym c.if-is_some.ensures)) in
+    IfSome_then c.write_next.result.failed c.write_next.ensures.broken (λ e broken.
+    subst (BreaksOff _ _) all (broken_last _ _ _ front last written
+    (subst (BreaksOff _ _) (front-is last _ c.put_last-end.ensures.value c.put_last-end.ensures.text_after) broken)))
