@@ -8,7 +8,7 @@ ghost use Rattle.list_text.specs.Making.{text};
 pub mod rows;
 
 // A line in the making. Division gives a number's last digit first, so a line is made from its end: `bytes` from `start` on.
-#[derive(Drop)]
+#[derive(Clone, Copy)]
 struct Line {
     bytes: [u8; 64],
     start: usize,
@@ -30,7 +30,7 @@ fn byte_before(byte: u8, line: Line) -> Line
     ensures start_value { result.start + 1 ≡ line.start }
 {
     let mut longer = line;
-    let at = longer.start - 1;
+    let at = line.start - 1;
     longer.bytes[at] = byte;
     longer.start = at;
     longer
