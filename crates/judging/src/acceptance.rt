@@ -51,7 +51,8 @@ fn soundness(w: &Words, masks: &mut Masks) -> Admission
         return refused(RULE_4, n);
     }
     let candidates = masks_of(w, masks);
-    if MOST_CANDIDATES < candidates {
+    let too_many = MOST_CANDIDATES < candidates;
+    if too_many {
         *masks = [0u8; POSITIONS];
         return refused(TOO_MANY_CANDIDATES, 0);
     }

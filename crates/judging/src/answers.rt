@@ -18,7 +18,7 @@ pub enum Admission {
     Refused(Refusal),
 }
 
-// What Masks answers. The sixteen bytes are in the lent array, since an enum holds no array.
+// What Masks answers. The sixteen bytes are in the lent array.
 #[derive(Clone, Copy)]
 pub enum Masked {
     Written,

@@ -22,7 +22,7 @@ pub enum Counted {
     Refused(Refusal),
 }
 
-// What a draw answers. The row is beside the answer, since an enum holds no array.
+// What a draw answers. The row is beside the answer.
 #[derive(Clone, Copy)]
 pub enum Answer {
     Found,

@@ -76,7 +76,8 @@ pub fn masks_of(w: &Words, masks: &mut Masks) -> u64
     while b < blocks {
         let block = declared_block(w, b);
         let own = wide(block.label);
-        if own != label {
+        let other = own != label;
+        if other {
             label = own;
             covering = covering_clouds(w, block.label);
         }

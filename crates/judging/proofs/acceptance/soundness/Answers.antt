@@ -41,13 +41,13 @@ returns-in-At-write c =
     let t = told d c.refused-in-At-write.ensures rule4 a.masks.now in
     record { w_value = t.0; masks_after = t.1 }
 
-pub returns-then-candidates-gt-MOST_CANDIDATES : goal.returns-then-candidates-gt-MOST_CANDIDATES
-returns-then-candidates-gt-MOST_CANDIDATES c =
+pub returns-then-too_many : goal.returns-then-too_many
+returns-then-too_many c =
     let a = c.args in
     let d = describes a.w.now in
     let many : 65536 < count d = omega (arith, c.masks_of-candidates.ensures.value) in
     let number12 = too_many_lem d (sym c.in_default.ensures) (sym c.in_default-read.ensures) (sym c.in_default-write.ensures) many in
-    let t = told d c.refused-then-candidates-gt-MOST_CANDIDATES.ensures number12 a.masks.now in
+    let t = told d c.refused-then-too_many.ensures number12 a.masks.now in
     record { w_value = t.0; masks_after = sym c.requires ∙ t.1 }
 
 pub returns : goal.returns

@@ -19,7 +19,7 @@ use Rattle.security.proofs.Choices.{one_choice}
 use Rattle.security.proofs.Equations.{count_of, masks-of}
 use Rattle.security.proofs.PermittedClouds.{mask-left, mask-beyond, mask_low, mask-number}
 use Rattle.soundness.proofs.masks.masks_of.Goals as goal
-use Rattle.soundness.proofs.masks.masks_of.Goals.{After-left_by-m, then-own-label, else-own-label}
+use Rattle.soundness.proofs.masks.masks_of.Goals.{After-left_by-m, then-other, else-other}
 
 grows : (b n r : ℕ) → n ≤ 8 ^ b → r ≤ 8 → n * r ≤ 8 ^ (b + 1)
 grows b n r h k = rw (add-one, pow-suc) (mul-le-mul h k)
@@ -27,15 +27,15 @@ grows b n r h k = rw (add-one, pow-suc) (mul-le-mul h k)
 -- the clouds that cover the block's label: those of the block before, or looked for again
 known : (c : After-left_by-m)
     → let d = describes c.args.w.now in
-    c.if-own-label.covering ≡ bits (cloud_covers d (block_label d c.loop-b.b)) 0 8
+    c.if-other.covering ≡ bits (cloud_covers d (block_label d c.loop-b.b)) 0 8
 known c =
     let d = describes c.args.w.now in
     let block = c.declared_block-block in
     let own = ap (λ x. bits (cloud_covers d x.label) 0 8) block.ensures in
-    elim c.if-own-label.branch [
-      | then-own-label w ↦ w.covering-is ∙ w.covering_clouds-covering.ensures ∙ own
-      | else-own-label w ↦
-          let same : c.loop-b.label ≡ block.result.label = sym w.if-own-label.false ∙ c.wide-own.ensures in
+    elim c.if-other.branch [
+      | then-other w ↦ w.covering-is ∙ w.covering_clouds-covering.ensures ∙ own
+      | else-other w ↦
+          let same : c.loop-b.label ≡ block.result.label = omega (arith, w.if-other.false, c.wide-own.ensures) in
           let byte : block.result.label < 256 = search rules in
           w.covering-is ∙ c.loop-b.invariant.4 (omega (arith, same, byte)) ∙ ap (λ (l : ℕ). bits (cloud_covers d l) 0 8) same ∙ own
     ]
@@ -43,13 +43,13 @@ known c =
 -- for the label that is kept
 held : (c : After-left_by-m)
     → let d = describes c.args.w.now in
-    c.if-own-label.label < 256 → c.if-own-label.covering ≡ bits (cloud_covers d c.if-own-label.label) 0 8
+    c.if-other.label < 256 → c.if-other.covering ≡ bits (cloud_covers d c.if-other.label) 0 8
 held c low =
     let d = describes c.args.w.now in
     let anew : ℕ → ℕ = λ l. bits (cloud_covers d l) 0 8 in
-    elim c.if-own-label.branch [
-      | then-own-label w ↦ w.covering-is ∙ w.covering_clouds-covering.ensures ∙ ap anew (sym (w.label-is ∙ c.wide-own.ensures))
-      | else-own-label w ↦ w.covering-is ∙ c.loop-b.invariant.4 (omega (arith, low, w.label-is)) ∙ ap anew (sym w.label-is)
+    elim c.if-other.branch [
+      | then-other w ↦ w.covering-is ∙ w.covering_clouds-covering.ensures ∙ ap anew (sym (w.label-is ∙ c.wide-own.ensures))
+      | else-other w ↦ w.covering-is ∙ c.loop-b.invariant.4 (omega (arith, low, w.label-is)) ∙ ap anew (sym w.label-is)
     ]
 
 -- the byte is the mask; it has as many set bits as the block has choices, at most eight
@@ -57,7 +57,7 @@ byte : (c : After-left_by-m) → c.left_by-m.result ≡ mask_of (describes c.arg
 byte c =
     let w = c.args.w.now in
     let d = describes w in
-    let pin = ap (λ x. left_by x.pin c.if-own-label.covering) c.declared_block-block.ensures in
+    let pin = ap (λ x. left_by x.pin c.if-other.covering) c.declared_block-block.ensures in
     c.left_by-m.ensures ∙ pin ∙ ap (left_by (block d c.loop-b.b).pin) (known c) ∙
     mask-left d (few-clouds w) c.loop-b.b (omega (arith, c.block_count-blocks.ensures.value))
 
