@@ -3,9 +3,8 @@
 
 Prints every place where a proof unfolds a definition of a crate below its own, by a line
 `unfolding`, by `unfold .. in` or by a function's attribute, and every crate that crates.txt
-lets another one know and that it does not use; fails if there is one.  The words of the
-kit's own libraries may be unfolded.  Computed examples and the computed table of labels are
-left out: they unfold what they compute.
+lets another one know and that it does not use; fails if there is one.  Computed examples and
+the computed table of labels are left out: they unfold what they compute.
 """
 import pathlib
 import re
@@ -23,10 +22,6 @@ COMPUTED = {"Apart.antt", "Computed.antt", "Examples.antt", "Interview.antt", "M
 COMPUTED_TABLE = CRATES / "labels/proofs/whole_table/Answers.antt"
 
 
-def is_ours(crate):
-    return (CRATES / crate).is_dir()
-
-
 def files_of(crate, *folders):
     """The files of a crate in these of its folders; what `rt` makes lies in another one."""
     return sorted(path for folder in folders for path in (CRATES / crate / folder).rglob("*")
@@ -34,10 +29,10 @@ def files_of(crate, *folders):
 
 
 def names_used(text):
-    """Each name that a file takes from a crate of the repository: what it is called here, and the crate."""
+    """Each name that a file takes from a crate: what it is called here, and the crate."""
     found = {}
     for crate, names in USED.findall(text):
-        for name in names.split(",") if is_ours(crate) else []:
+        for name in names.split(","):
             words = name.split()
             if words:
                 found[words[-1]] = crate
@@ -65,7 +60,7 @@ def unfolded_by_attribute(crate, path):
         line = text.count("\n", 0, match.start()) + 1
         for name in match[1].split(","):
             below = name.split("::")[0].strip()
-            if below != crate and is_ours(below):
+            if below not in ("crate", crate):
                 yield line, name.split("::")[-1].strip(), below
 
 
