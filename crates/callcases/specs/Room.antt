@@ -1,5 +1,7 @@
--- What the contracts say of the room in the output, in bytes.
-use Rattle.std.specs.Prelude.{ℕ, ◌+◌, ◌≤◌}
+-- What the contracts say of the room in the output, in bytes, and of what a failed write leaves.
+use Rattle.std.specs.Prelude.{ℕ, ◌+◌, ◌≤◌, List, Option, take}
+use Rattle.standard_input.specs.declared.Failure.{Failure}
+use Rattle.standard_input.specs.Failures.{OfOutput, BreaksOff}
 use Rattle.callcases.specs.declared.Turn.{Turn}
 use Rattle.callcases.specs.declared.Turn.TheVariants.{Next, End}
 use Rattle.callcases.specs.declared.cases.Reply.{Reply}
@@ -31,3 +33,7 @@ Within (Failed error) = Unit {0}
 abbrev pub Roomy : Turn → Type 0
 Roomy (Next at) = at + line ≤ size
 Roomy End = Unit {0}
+
+-- if it was the output that failed, the writer took the first bytes of what was ready in the buffer, up to some offset, and not all of it
+abbrev pub BrokeOffIn : Failure → (old new : Option (List ℕ)) → (buffer : List ℕ) → Type 0
+BrokeOffIn e old new buffer = OfOutput e → (at : ℕ) × BreaksOff old new (take at buffer)

@@ -1,9 +1,9 @@
 // Answers the cases on standard input, each with one line on standard output.
 #![tactic(auto)]
 
-ghost use Rattle.std.specs.Prelude.{◌+◌, ◌≤◌, IfErr, IfOk};
-ghost use Rattle.standard_input.specs.Failures.{OfOutput, NotWritten, Grows};
-ghost use Rattle.callcases.specs.Room.{size, line, Within, Roomy};
+ghost use Rattle.std.specs.Prelude.{◌+◌, ◌≤◌, take, IfErr, IfOk, OnErr};
+ghost use Rattle.standard_input.specs.Failures.{OfOutput, NotWritten, BreaksOff, Grows};
+ghost use Rattle.callcases.specs.Room.{size, line, Within, Roomy, BrokeOffIn};
 
 mod buffer;
 mod cases;
@@ -30,6 +30,7 @@ fn finish<W: Write>(writer: &mut W, out: &Buffer, at: usize) -> Result<Turn, Fai
     requires { at ≤ size }
     ensures room { IfOk result Roomy }
     ensures error { IfErr result OfOutput }
+    ensures broken { OnErr result (BreaksOff (W.contents writer.old) (W.contents writer.new) (take at out.now)) }
     ensures kept { Grows (W.contents writer.old) (W.contents writer.new) }
 {
     flush(writer, out, at)?;
@@ -41,6 +42,7 @@ fn bad_case<W: Write>(writer: &mut W, out: &mut Buffer, at: usize) -> Result<Tur
     requires { at + line ≤ size }
     ensures room { IfOk result Roomy }
     ensures error { IfErr result OfOutput }
+    ensures broken { IfErr result (λ e. BrokeOffIn e (W.contents writer.old) (W.contents writer.new) out.new) }
     ensures kept { Grows (W.contents writer.old) (W.contents writer.new) }
 {
     let at = output::put(out, at, b"bad case\n");
@@ -52,6 +54,7 @@ fn make_room<W: Write>(writer: &mut W, out: &Buffer, at: usize) -> Result<Turn, 
     requires { at ≤ size }
     ensures room { IfOk result Roomy }
     ensures error { IfErr result OfOutput }
+    ensures broken { OnErr result (BreaksOff (W.contents writer.old) (W.contents writer.new) (take at out.now)) }
     ensures kept { Grows (W.contents writer.old) (W.contents writer.new) }
 {
     if at + LINE <= SIZE {
@@ -71,6 +74,7 @@ fn after_reply<W: Write>(
     requires within { Within reply }
     ensures room { IfOk result Roomy }
     ensures unread { IfErr result (λ e. NotWritten e (W.contents writer.old) (W.contents writer.new)) }
+    ensures broken { IfErr result (λ e. BrokeOffIn e (W.contents writer.old) (W.contents writer.new) out.new) }
     ensures kept { Grows (W.contents writer.old) (W.contents writer.new) }
 {
     match reply {
@@ -112,6 +116,7 @@ fn next_case<R: Read, W: Write>(
     requires { at + line ≤ size }
     ensures room { IfOk result Roomy }
     ensures unread { IfErr result (λ e. NotWritten e (W.contents writer.old) (W.contents writer.new)) }
+    ensures broken { IfErr result (λ e. BrokeOffIn e (W.contents writer.old) (W.contents writer.new) out.new) }
     ensures kept { Grows (W.contents writer.old) (W.contents writer.new) }
 {
     let mut header = [0u8; 3];

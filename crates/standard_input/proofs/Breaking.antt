@@ -24,15 +24,6 @@ pub broken_last : (a b c : Option (List ℕ)) (front part : List ℕ) → Append
 broken_last a b c front part written broken =
     subst (λ l. BreaksOff a c (front ++ l)) (append-nil part) (broken_behind a b c front part [] written broken)
 
--- a writer grows if nothing is written, a text, a part of it, or one after the other
-pub grows_by_none : (a : Option (List ℕ)) → Grows a a
-grows_by_none a = ([], Appends-nil a)
-
-pub grows_by_all : (a b : Option (List ℕ)) (text : List ℕ) → Appends a b text → Grows a b
-grows_by_all a b text written = (text, written)
-
-pub grows_by_part : (a b : Option (List ℕ)) (text : List ℕ) → BreaksOff a b text → Grows a b
-grows_by_part a b text (n, short, written) = (take n text, written)
-
+-- what grows twice grows
 pub grows_twice : (a b c : Option (List ℕ)) → Grows a b → Grows b c → Grows a c
 grows_twice a b c (xs, first) (ys, second) = (xs ++ ys, Appends-trans a b c xs ys first second)

@@ -1,4 +1,4 @@
--- What a failure of a stream says of the writer.
+-- What is known of a writer after a failure of a stream.
 use Rattle.std.specs.Prelude.{ℕ, ◌<◌, List, Option, length, take, ⊤}
 use Rattle.std.specs.Io.KnownBytes.{Appends, Keeps}
 use Rattle.standard_input.specs.declared.Failure.{Failure}

@@ -44,7 +44,8 @@ pub enum Failure {
     Output(Error),
 }
 
-// A line on standard error: what failed, and why, in the system's words, which are shorter than the text is.
+// A line on standard error: what failed, and why, in the words of the system or, where it has none, of the library. Both are shorter than
+// the text is.
 pub fn report(rt: &impl Eprint, program: &str, failure: Failure) {
     let (stream, error) = match failure {
         Failure::Input(error) => ("input", error),
