@@ -30,7 +30,9 @@ use Rattle.list_text.specs.Lines.{ascii, digit, decimal, amount_text, row_line, 
 use Rattle.list_text.specs.RowLines.{words_line, lines_of, rows_text}
 use Rattle.list_text.proofs.RowLines.{words-line, taken-apart}
 use Rattle.standard_input.specs.Failures.{BreaksOff}
+use Rattle.std.proofs.lemmas.Option.{IfSome_then}
 use Rattle.standard_input.proofs.Breaking.{broken_behind}
+use Rattle.standard_input.proofs.Reading.{read_front}
 use Rattle.listoptions.specs.Printed.{row_lines, printed_for, printed}
 use Rattle.listoptions.specs.Making.{held_words, held_keys, held_bytes, page_rows, rows_of, blocks_of, lines_in, page_text, last_line, BeginsWith, NextBytes}
 
@@ -244,17 +246,9 @@ pub printed-front : (s : List ℕ) (n : ℕ) → deciding_bytes ≤ n → printe
 unfolding printed
 printed-front s n h = ap printed_for (read-front s n h)
 
--- what is so of the text that is printed for what was read is so of that for what a reader had left: all of it was read, or as much as fits
+-- what is so of the text that is printed for what was read is so of that for what a reader had left: what fits decides
 pub read-decides : (P : List ℕ → Type 0) (old new : Option (List ℕ)) (space : List ℕ) (count : ℕ) → length space ≡ 4096 → count ≤ length space
     → Consumes old new (take count space) → (count < length space → IsAtEnd new) → P (printed (take count space)) → IfSome old (λ s. P (printed s))
-read-decides P None new space count size few e end p = tt
-read-decides P (Some s) None space count size few e end p = absurd e
-read-decides P (Some s) (Some rest) space count size few e end p =
-    let came = take count space in
-    let same : printed came ≡ printed s = elim (dec_lt count (length space)) [
-      | yes l ↦ ap printed (sym (e ∙ ap (λ l. came ++ l) (end l) ∙ append-nil came))
-      | no l ↦
-          let full : length came ≡ 4096 = omega (arith, length-take count space) in
-          ap printed (sym (ap (take 4096) e ∙ take_at came rest 4096 full)) ∙ printed-front s 4096 (omega arith)
-    ] in
-    subst P same p
+read-decides P old new space count size few e end p =
+    IfSome_then old (read_front (λ s. P (printed s)) old new space 4096 count size few e end p)
+    (λ s. subst P (printed-front s 4096 (omega arith)))
