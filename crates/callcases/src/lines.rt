@@ -1,198 +1,149 @@
-// The words of each answer, put in the output without the line's end.
-ghost use Rattle.std.specs.Prelude.{◌+◌, ◌≤◌};
-ghost use Rattle.callcases.specs.Room.{size, words};
+// The line of each case: the words of the call's answer, and after a call that writes to a lent buffer the buffer as the call left it.
+ghost use Rattle.std.specs.Prelude.{◌+◌, ◌*◌, ◌≤◌, length};
+ghost use Rattle.arrayvec.specs.ArrayVec.{array_vec_len};
+ghost use Rattle.callcases.specs.Room.{size, line, words, most_lent};
 
-use crate::buffer::Buffer;
-use crate::output::{put, put_clouds, put_hex, put_number};
-use billing::Billed;
-use costs::answers::Bill;
-use description::workflow::Refusal;
-use judging::answers::{Acceptance, Masked};
-use lister::{Answer, Counted, Drawn};
-use picture::Pictured;
+use crate::cases::{Call, Loan, MOST_LENT};
+use crate::output::{Output, put, put_clouds, put_hex, put_number};
+use arrayvec::ArrayVec;
+use refusals::Refusal;
 use security::answers::Verdict;
-use standing::{Explanation, reason_number};
-use survey::{Figures, Row};
-use transfer_list::Transferred;
+use standard_input::filled;
+use statuses::values::Values;
+use survey::Row;
 
-pub fn put_acceptance(out: &mut Buffer, at: usize, a: Acceptance) -> usize
-    requires { at + words ≤ size }
-    ensures { result ≤ at + words }
+// The words of an answer. None has as many bytes.
+type Words = ArrayVec<u8, 160>;
+
+pub fn put_line(out: &mut Output, description: &[u8], call: Call)
+    requires { array_vec_len out.old + line ≤ size }
+    ensures { array_vec_len out.new ≤ array_vec_len out.old + line }
 {
-    match a {
-        Acceptance::Accepted {
-            clouds,
-            blocks,
-            edges,
-        } => put_counts(out, at, clouds, blocks, edges),
-        Acceptance::Refused(r) => put_refusal(out, at, r),
+    put_answer(out, description, call);
+    put(out, b"\n");
+}
+
+fn put_answer(out: &mut Output, description: &[u8], call: Call)
+    requires { array_vec_len out.old + words + 1 + 2 * most_lent ≤ size }
+    ensures { array_vec_len out.new ≤ array_vec_len out.old + words + 1 + 2 * most_lent }
+{
+    match call {
+        Call::Read => put_words(out, answer(b"accepted", judging::read(description))),
+        Call::Masks => put_words(out, masks(description)),
+        Call::Judge(placement) => put_words(out, verdict(judging::judge(description, placement))),
+        Call::Census => put_words(out, answer(b"census", lister::census(description))),
+        Call::Draw(cursor) => put_words(out, drawn(lister::draw(description, cursor))),
+        Call::Transfers(loan) => put_lent(out, loan, |lent| {
+            answer(
+                b"transfers",
+                judging::transfers(description, loan.placement, lent),
+            )
+        }),
+        Call::Picture(loan) => put_lent(out, loan, |lent| {
+            answer(
+                b"picture",
+                picture::picture(description, loan.placement, lent),
+            )
+        }),
+        Call::Size(placement) => put_words(
+            out,
+            answer(b"bytes", picture::picture_size(description, placement)),
+        ),
+        Call::Bill(placement) => put_words(
+            out,
+            answer(b"bill", billing::bill(description, placement)),
+        ),
+        Call::Standing(block, cloud) => put_words(
+            out,
+            answer(
+                b"standing",
+                standing::standing(description, usize::from(block), cloud),
+            ),
+        ),
     }
 }
 
-pub fn put_masked(out: &mut Buffer, at: usize, m: Masked, masks: &[u8; 16]) -> usize
-    requires { at + words ≤ size }
-    ensures { result ≤ at + words }
+fn put_words(out: &mut Output, answer: Words)
+    requires { array_vec_len out.old + words ≤ size }
+    ensures { array_vec_len out.new ≤ array_vec_len out.old + words }
 {
-    match m {
-        Masked::Written => {
-            let at = put(out, at, b"masks");
-            put_hex(out, at, masks)
+    put(out, answer.as_slice());
+}
+
+// The call is lent a buffer that is filled with a byte which shows what it did not touch.
+fn put_lent<F: FnOnce(&mut [u8]) -> Words>(out: &mut Output, loan: Loan, call: F)
+    requires room { array_vec_len out.old + words + 1 + 2 * most_lent ≤ size }
+    requires callable { F.IsAlwaysCallable call }
+    ensures { array_vec_len out.new ≤ array_vec_len out.old + words + 1 + 2 * most_lent }
+{
+    let mut buffer: [u8; MOST_LENT] = filled(0xa5);
+    let lent = &mut buffer[..loan.room];
+    put_words(out, call(lent));
+    put_hex(out, lent);
+}
+
+// A word, and then each number with a space before it.
+fn worded(word: &[u8], numbers: &[u64]) -> Words
+    requires { length word.now + 21 * length numbers.now ≤ words }
+    ensures { array_vec_len result ≤ length word.now + 21 * length numbers.now }
+{
+    let mut text = Words::new();
+    put(&mut text, word);
+    for &n in numbers {
+        put_number(&mut text, n);
+    }
+    text
+}
+
+// The values of an answer after a word, or the refusal.
+fn answer<T: Values<N> + Drop, const N: usize>(word: &[u8], given: Result<T, Refusal>) -> Words
+    requires { length word.now + 21 * N ≤ words }
+{
+    match given {
+        Ok(value) => worded(word, &value.values()),
+        Err(r) => refusal(r),
+    }
+}
+
+fn masks(description: &[u8]) -> Words {
+    let mut masks = [0u8; 16];
+    match judging::masks(description, &mut masks) {
+        Ok(()) => {
+            let mut text = worded(b"masks", &[]);
+            put_hex(&mut text, &masks);
+            text
         }
-        Masked::Refused(r) => put_refusal(out, at, r),
+        Err(r) => refusal(r),
     }
 }
 
-pub fn put_verdict(out: &mut Buffer, at: usize, v: Verdict) -> usize
-    requires { at + words ≤ size }
-    ensures { result ≤ at + words }
-{
+fn verdict(v: Verdict) -> Words {
     match v {
-        Verdict::Secure => put(out, at, b"secure"),
-        Verdict::Refused(r) => put_refusal(out, at, r),
+        Verdict::Secure => worded(b"secure", &[]),
+        Verdict::Refused(r) => refusal(r),
     }
 }
 
-pub fn put_counted(out: &mut Buffer, at: usize, c: Counted) -> usize
-    requires { at + words ≤ size }
-    ensures { result ≤ at + words }
-{
-    match c {
-        Counted::Counts(f) => put_figures(out, at, f),
-        Counted::Refused(r) => put_refusal(out, at, r),
+fn drawn(given: Result<Option<Row>, Refusal>) -> Words {
+    match given {
+        Ok(Some(found)) => row(found),
+        Ok(None) => worded(b"finished", &[]),
+        Err(r) => refusal(r),
     }
 }
 
-pub fn put_drawn(out: &mut Buffer, at: usize, d: Drawn) -> usize
-    requires { at + words ≤ size }
-    ensures { result ≤ at + words }
-{
-    let answer = d.answer;
-    let row = d.row;
-    match answer {
-        Answer::Found => put_row(out, at, row),
-        Answer::Finished => put(out, at, b"finished"),
-        Answer::Refused(r) => put_refusal(out, at, r),
-    }
-}
-
-pub fn put_transferred(out: &mut Buffer, at: usize, t: Transferred) -> usize
-    requires { at + words ≤ size }
-    ensures { result ≤ at + words }
-{
-    match t {
-        Transferred::Count(n) => {
-            let at = put(out, at, b"transfers");
-            put_number(out, at, n as u64)
-        }
-        Transferred::Refused(r) => put_refusal(out, at, r),
-    }
-}
-
-pub fn put_pictured(out: &mut Buffer, at: usize, p: Pictured) -> usize
-    requires { at + words ≤ size }
-    ensures { result ≤ at + words }
-{
-    match p {
-        Pictured::Bytes(n) => {
-            let at = put(out, at, b"picture");
-            put_number(out, at, n as u64)
-        }
-        Pictured::Refused(r) => put_refusal(out, at, r),
-    }
-}
-
-pub fn put_size(out: &mut Buffer, at: usize, p: Pictured) -> usize
-    requires { at + words ≤ size }
-    ensures { result ≤ at + words }
-{
-    match p {
-        Pictured::Bytes(n) => {
-            let at = put(out, at, b"bytes");
-            put_number(out, at, n as u64)
-        }
-        Pictured::Refused(r) => put_refusal(out, at, r),
-    }
-}
-
-pub fn put_billed(out: &mut Buffer, at: usize, b: Billed) -> usize
-    requires { at + words ≤ size }
-    ensures { result ≤ at + words }
-{
-    match b {
-        Billed::Priced { cost, bill } => {
-            let at = put(out, at, b"bill");
-            let at = put_number(out, at, cost);
-            put_bill(out, at, bill)
-        }
-        Billed::Refused(r) => put_refusal(out, at, r),
-    }
-}
-
-pub fn put_explanation(out: &mut Buffer, at: usize, e: Explanation) -> usize
-    requires { at + words ≤ size }
-    ensures { result ≤ at + words }
-{
-    match e {
-        Explanation::Reason(reason) => {
-            let at = put(out, at, b"standing");
-            put_number(out, at, reason_number(reason) as u64)
-        }
-        Explanation::Refused(r) => put_refusal(out, at, r),
-    }
-}
-
-fn put_counts(out: &mut Buffer, at: usize, clouds: usize, blocks: usize, edges: usize) -> usize
-    requires { at + words ≤ size }
-    ensures { result ≤ at + words }
-{
-    let at = put(out, at, b"accepted");
-    let at = put_number(out, at, clouds as u64);
-    let at = put_number(out, at, blocks as u64);
-    put_number(out, at, edges as u64)
-}
-
-fn put_figures(out: &mut Buffer, at: usize, f: Figures) -> usize
-    requires { at + words ≤ size }
-    ensures { result ≤ at + words }
-{
-    let at = put(out, at, b"census");
-    let at = put_number(out, at, f.candidates);
-    let at = put_number(out, at, f.breaking16);
-    let at = put_number(out, at, f.breaking17only);
-    let at = put_number(out, at, f.apartonly);
-    let at = put_number(out, at, f.secure);
-    put_number(out, at, f.options)
-}
-
-fn put_row(out: &mut Buffer, at: usize, row: Row) -> usize
-    requires { at + words ≤ size }
-    ensures { result ≤ at + words }
-{
-    let cost = row.cost;
-    let placement = row.placement;
-    let at = put(out, at, b"row");
-    let at = put_number(out, at, cost);
-    let at = put(out, at, b" ");
-    let at = put_clouds(out, at, placement);
+fn row(row: Row) -> Words {
     let bill = row.bill;
-    put_bill(out, at, bill)
+    let mut text = worded(b"row", &[row.cost]);
+    put(&mut text, b" ");
+    put_clouds(&mut text, &row.placement);
+    put_number(&mut text, bill.storage);
+    put_number(&mut text, bill.transfer);
+    put_number(&mut text, bill.cpu);
+    text
 }
 
-// Three numbers, each with a space before it.
-fn put_bill(out: &mut Buffer, at: usize, bill: Bill) -> usize
-    requires { at + 63 ≤ size }
-    ensures { result ≤ at + 63 }
-{
-    let at = put_number(out, at, bill.storage);
-    let at = put_number(out, at, bill.transfer);
-    put_number(out, at, bill.cpu)
-}
-
-fn put_refusal(out: &mut Buffer, at: usize, r: Refusal) -> usize
-    requires { at + words ≤ size }
-    ensures { result ≤ at + words }
-{
-    let at = put(out, at, b"refused");
-    let at = put_number(out, at, r.number as u64);
-    put_number(out, at, r.place as u64)
+fn refusal(r: Refusal) -> Words {
+    let number = u64::from(r.fault.number());
+    worded(b"refused", &[number, r.place as u64])
 }

@@ -1,60 +1,62 @@
-// Standard output, collected in a buffer so that many lines take one write. A `put` function starts at an offset of the buffer and answers
-// the offset after what it put.
-ghost use Rattle.std.specs.Prelude.{◌+◌, ◌*◌, ◌≤◌, ◌<◌, ◌≡◌, length, take, OnOk, OnErr, IfErr};
+// Standard output, collected in a buffer so that many lines take one write.
+ghost use Rattle.std.specs.Prelude.{◌+◌, ◌*◌, ◌≤◌, ◌<◌, ◌≡◌, [], ◌++◌, length, OnOk, OnErr, IfErr};
 ghost use Rattle.std.specs.Char.{digit_char};
 ghost use Rattle.std.specs.Io.KnownBytes.{Appends};
-ghost use Rattle.callcases.specs.Room.{size};
+ghost use Rattle.arrayvec.specs.ArrayVec.{array_vec_len};
 ghost use Rattle.standard_input.specs.Failures.{OfOutput, BreaksOff};
 
-use crate::buffer::{Buffer, front};
+use arrayvec::ArrayVec;
 use standard_input::{Failure, write_full};
 use std::io::Write;
 
-// Writes the bytes before the offset.
-pub fn flush<W: Write>(writer: &mut W, out: &[u8], at: usize) -> Result<(), Failure>
-    requires { at ≤ length out.now }
-    ensures bytes { OnOk result (Appends (W.contents writer.old) (W.contents writer.new) (take at out.now)) }
-    ensures broken { OnErr result (BreaksOff (W.contents writer.old) (W.contents writer.new) (take at out.now)) }
+// The most bytes that wait to be written.
+pub const SIZE: usize = 65536;
+
+// More bytes than the longest line has, which is that of a lent buffer with two digits a byte.
+pub const LINE: usize = 8192;
+
+// What is ready to be written.
+pub type Output = ArrayVec<u8, SIZE>;
+
+// Writes what is ready, and then nothing is.
+pub fn flush<W: Write>(writer: &mut W, out: &mut Output) -> Result<(), Failure>
+    ensures bytes { OnOk result (Appends (W.contents writer.old) (W.contents writer.new) out.old.items) }
+    ensures empty { OnOk result (out.new.items ≡ []) }
+    ensures broken { OnErr result (BreaksOff (W.contents writer.old) (W.contents writer.new) out.old.items) }
+    ensures left { OnErr result (out.new.items ≡ out.old.items) }
     ensures error { IfErr result OfOutput }
 {
-    match write_full(writer, front(out, at)) {
-        Ok(()) => Ok(()),
-        Err(error) => Err(Failure::Output(error)),
-    }
+    let ready = out.as_slice();
+    write_full(writer, ready).map_err(Failure::Output)?;
+    out.clear();
+    Ok(())
 }
 
-pub fn put(out: &mut Buffer, at: usize, text: &[u8]) -> usize
-    requires { at + length text.now ≤ size }
-    ensures { result ≡ at + length text.now }
+pub fn put<const N: usize>(out: &mut ArrayVec<u8, N>, text: &[u8])
+    requires { array_vec_len out.old + length text.now ≤ N }
+    ensures bytes { out.new.items ≡ out.old.items ++ text.now }
+    ensures count { array_vec_len out.new ≡ array_vec_len out.old + length text.now }
 {
-    let mut i = 0;
-    while i < text.len() {
-        out[at + i] = text[i];
-        i += 1;
-    }
-    at + i
+    out.try_extend_from_slice(text).unwrap();
 }
 
 // Puts a space and the number in decimal.
-pub fn put_number(out: &mut Buffer, at: usize, n: u64) -> usize
-    requires { at + 21 ≤ size }
-    ensures { result ≤ at + 21 }
+pub fn put_number<const N: usize>(out: &mut ArrayVec<u8, N>, n: u64)
+    requires { array_vec_len out.old + 21 ≤ N }
+    ensures { array_vec_len out.new ≤ array_vec_len out.old + 21 }
 {
-    let at = put(out, at, b" ");
-    list_text::rows::put_number(n, out, at)
+    put(out, b" ");
+    put(out, itoa::Buffer::new().format(n).as_bytes());
 }
 
 // Puts a digit for each block's cloud.
-pub fn put_clouds(out: &mut Buffer, at: usize, clouds: [u8; 16]) -> usize
-    requires { at + 16 ≤ size }
-    ensures { result ≡ at + 16 }
+pub fn put_clouds<const N: usize>(out: &mut ArrayVec<u8, N>, clouds: &[u8])
+    requires { array_vec_len out.old + length clouds.now ≤ N }
+    ensures { array_vec_len out.new ≡ array_vec_len out.old + length clouds.now }
 {
-    let mut i = 0;
-    while i < 16 {
-        out[at + i] = cloud_digit(clouds[i]);
-        i += 1;
+    for &cloud in clouds {
+        out.push(cloud_digit(cloud));
     }
-    at + i
 }
 
 // No description has ten clouds: a larger number shows as a question mark.
@@ -63,37 +65,18 @@ fn cloud_digit(cloud: u8) -> u8 {
 }
 
 // Puts a space and the bytes in hexadecimal; nothing if there are none.
-pub fn put_hex(out: &mut Buffer, at: usize, bytes: &[u8]) -> usize
-    requires { at + 1 + 2 * length bytes.now ≤ size }
-    ensures { result ≤ at + 1 + 2 * length bytes.now }
+pub fn put_hex<const N: usize>(out: &mut ArrayVec<u8, N>, bytes: &[u8])
+    requires { array_vec_len out.old + 1 + 2 * length bytes.now ≤ N }
+    ensures { array_vec_len out.new ≤ array_vec_len out.old + 1 + 2 * length bytes.now }
 {
-    if bytes.len() == 0 {
-        return at;
+    if bytes.is_empty() {
+        return;
     }
-    let at = put(out, at, b" ");
-    put_bytes(out, at, bytes)
-}
-
-fn put_bytes(out: &mut Buffer, at: usize, bytes: &[u8]) -> usize
-    requires { at + 2 * length bytes.now ≤ size }
-    ensures { result ≡ at + 2 * length bytes.now }
-{
-    let mut end = at;
-    let mut i = 0;
-    while i < bytes.len() {
-        end = put_byte(out, end, bytes[i]);
-        i += 1;
+    out.push(b' ');
+    for &byte in bytes {
+        out.push(digit(byte / 16));
+        out.push(digit(byte % 16));
     }
-    end
-}
-
-fn put_byte(out: &mut Buffer, at: usize, byte: u8) -> usize
-    requires { at + 2 ≤ size }
-    ensures { result ≡ at + 2 }
-{
-    out[at] = digit(byte / 16);
-    out[at + 1] = digit(byte % 16);
-    at + 2
 }
 
 // A hexadecimal digit, in lower case.

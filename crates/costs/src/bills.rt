@@ -1,8 +1,6 @@
-// The bills of placements. An amount is a rate of a cloud times a quantity of a block: both are written down once, in two lent arrays, for
-// any number of bills.
-ghost use Rattle.std.specs.Prelude.{◌≡◌, map, ◌≤◌, ◌<◌, ◌*◌, replicate};
+// The bills of placements. An amount is a rate of a cloud times a quantity of a block: both are written down once, for any number of bills.
+ghost use Rattle.std.specs.Prelude.{◌≡◌, map, length, ◌≤◌, ◌<◌, ◌*◌};
 ghost use Rattle.description.specs.Invariants.{WellFormed};
-ghost use Rattle.description.specs.Meaning.{describes};
 ghost use Rattle.sequences.specs.Arrays.{AllBelow};
 ghost use Rattle.sequences.specs.Lists.{sum};
 ghost use Rattle.costs.specs.Cost.{bill_of, cost};
@@ -10,23 +8,16 @@ ghost use Rattle.costs.specs.Prices.{most_amount, column_of, rates_of, quantitie
 
 use crate::answers::{Bill, Charge};
 use crate::cost::{charged_of, months_of, units_of};
-use description::words::Words;
-use description::workflow::{
-    Edge, block_at, block_count, cloud_at, cloud_count, edge_at, edge_count,
-};
-use sequences::wide;
+use description::workflow::{Description, Edge};
+use std::marker::Model;
 
 // A row of one number for each charge.
 const CHARGES: usize = 3;
 
 // A row for each of eight clouds, and one for each of sixteen blocks.
-pub const RATES: usize = 24;
+const RATES: usize = 24;
 
-pub const QUANTITIES: usize = 48;
-
-pub type Rates = [u16; RATES];
-
-pub type Quantities = [u32; QUANTITIES];
+const QUANTITIES: usize = 48;
 
 // The clouds of the blocks. It is lent: passed by value, it would be copied for every edge.
 pub type Placement = [u8; 16];
@@ -44,36 +35,29 @@ fn column_of(charge: Charge) -> usize
 }
 
 // The rates of the declared clouds, for each charge.
-pub fn fill_rates(w: &Words, rates: &mut Rates)
-    requires { rates.old ≡ replicate 24 0 }
-    ensures { rates.new ≡ rates_of (describes w.now) }
+fn rates_of(w: &Description) -> [u16; RATES]
+    ensures { result ≡ rates_of w.now }
 {
-    let n = cloud_count(w);
-    let mut k = 0;
-    while k < n {
-        let cloud = cloud_at(w, k);
+    let mut rates = [0u16; RATES];
+    for (k, cloud) in w.clouds().iter().enumerate() {
         rates[CHARGES * k] = cloud.storage;
         rates[CHARGES * k + 1] = cloud.storage;
         rates[CHARGES * k + 2] = cloud.cpu;
-        k += 1;
     }
+    rates
 }
 
 // The quantities of the declared blocks, for each charge.
-pub fn fill_quantities(w: &Words, quantities: &mut Quantities)
-    requires { quantities.old ≡ replicate 48 0 }
-    ensures { quantities.new ≡ quantities_of (describes w.now) }
+fn quantities_of(w: &Description) -> [u32; QUANTITIES]
+    ensures { result ≡ quantities_of w.now }
 {
-    let n = block_count(w);
-    let mut b = 0;
-    while b < n {
-        let block = block_at(w, b);
-        let kind = block.kind;
-        quantities[CHARGES * b] = months_of(kind) as u32;
-        quantities[CHARGES * b + 1] = charged_of(kind) as u32;
-        quantities[CHARGES * b + 2] = units_of(kind) as u32;
-        b += 1;
+    let mut quantities = [0u32; QUANTITIES];
+    for (b, block) in w.blocks().iter().enumerate() {
+        quantities[CHARGES * b] = months_of(block.kind) as u32;
+        quantities[CHARGES * b + 1] = charged_of(block.kind) as u32;
+        quantities[CHARGES * b + 2] = units_of(block.kind) as u32;
     }
+    quantities
 }
 
 // The highest rate times the highest quantity is far below 2^64.
@@ -81,105 +65,123 @@ fn amount(rate: u16, quantity: u32) -> u64
     ensures value { result ≡ rate * quantity }
     ensures upper_bound { result ≤ most_amount }
 {
-    (rate as u64) * (quantity as u64)
+    u64::from(rate) * u64::from(quantity)
 }
 
-// What block b is charged on cloud k.
-fn amount_at(rates: &Rates, quantities: &Quantities, charge: Charge, k: usize, b: usize) -> u64
-    requires { (k < 8) × (b < 16) }
-    ensures value { result ≡ amount_by rates.now quantities.now charge k b }
-    ensures upper_bound { result ≤ most_amount }
-{
-    let column = column_of(charge);
-    amount(
-        rates[CHARGES * k + column],
-        quantities[CHARGES * b + column],
-    )
+// A description, on loan, with its rates and quantities.
+#[derive(Drop)]
+pub struct Prices<'a> {
+    description: &'a Description,
+    rates: [u16; RATES],
+    quantities: [u32; QUANTITIES],
 }
 
-// One charge for the first n blocks, on their clouds.
-fn blocks_cost(
-    charge: Charge,
-    rates: &Rates,
-    quantities: &Quantities,
-    n: usize,
-    placement: &Placement,
-) -> u64
-    requires { (n ≤ 16) × AllBelow 8 placement.now }
-    ensures value { result ≡ blocks_by rates.now quantities.now charge n placement.now }
-    ensures upper_bound { result ≤ 16 * most_amount }
-{
-    let mut total: u64 = 0;
-    let mut b = 0;
-    while b < n {
-        total += amount_at(rates, quantities, charge, wide(placement[b]), b);
-        b += 1;
+impl<'a> Model for Prices<'a> {
+    ghost use Rattle.std.specs.Prelude.{◌≡◌};
+    ghost use Rattle.description.specs.Declarations.{Description};
+    ghost use Rattle.costs.specs.Prices.{rates_of, quantities_of};
+
+    ghost Value = { Description };
+
+    ghost view = { λ p. p.description.now };
+
+    ghost invariant = { λ p. (p.rates ≡ rates_of p.description.now) × (p.quantities ≡ quantities_of p.description.now) };
+}
+
+impl<'a> Prices<'a> {
+    pub fn of(description: &'a Description) -> Prices<'a>
+        ensures { result ≡ description.now }
+    {
+        Prices {
+            description,
+            rates: rates_of(description),
+            quantities: quantities_of(description),
+        }
     }
-    total
-}
 
-// What the copy on an edge is charged. It is worked out even if there is none: a branch around it would be guessed wrong every other time.
-fn copy_cost(rates: &Rates, quantities: &Quantities, placement: &Placement, e: Edge) -> u64
-    requires { (e.service < 16) × (e.datum < 16) × AllBelow 8 placement.now }
-    ensures value { result ≡ copy_by rates.now quantities.now placement.now e }
-    ensures upper_bound { result ≤ most_amount }
-{
-    let here = placement[wide(e.service)];
-    let there = placement[wide(e.datum)];
-    let copy = amount_at(rates, quantities, Charge::Copy, wide(here), wide(e.datum));
-    if here == there { 0 } else { copy }
-}
-
-// All copies that the placement makes.
-fn copies_cost(w: &Words, rates: &Rates, quantities: &Quantities, placement: &Placement) -> u64
-    requires well_formed { WellFormed (describes w.now) }
-    requires all_below { AllBelow 8 placement.now }
-    ensures value { result ≡ sum (map (copy_by rates.now quantities.now placement.now) (describes w.now).edges) }
-    ensures upper_bound { result ≤ 32 * most_amount }
-{
-    let n = edge_count(w);
-    let mut total: u64 = 0;
-    let mut i = 0;
-    while i < n {
-        total += copy_cost(rates, quantities, placement, edge_at(w, i));
-        i += 1;
+    fn description(&self) -> &Description
+        ensures { result.now ≡ self.now }
+    {
+        self.description
     }
-    total
-}
 
-// The bill of a placement whose cost is known, as every row's is: what storage and computing leave of the cost is for the transfers.
-pub fn bill_by(
-    w: &Words,
-    rates: &Rates,
-    quantities: &Quantities,
-    placement: &Placement,
-    whole: u64,
-) -> Bill
-    requires well_formed { WellFormed (describes w.now) }
-    requires rates_value { (rates.now ≡ rates_of (describes w.now)) × (quantities.now ≡ quantities_of (describes w.now)) }
-    requires all_below { AllBelow 8 placement.now × (whole ≡ cost (describes w.now) placement.now) }
-    ensures { result ≡ bill_of (describes w.now) placement.now }
-{
-    let n = block_count(w);
-    let stored = blocks_cost(Charge::Storage, rates, quantities, n, placement);
-    let storage = stored + copies_cost(w, rates, quantities, placement);
-    let cpu = blocks_cost(Charge::Cpu, rates, quantities, n, placement);
-    Bill {
-        storage,
-        transfer: whole - storage - cpu,
-        cpu,
+    // What block b is charged on cloud k.
+    fn amount_at(&self, charge: Charge, k: usize, b: usize) -> u64
+        requires { (k < 8) × (b < 16) }
+        ensures value { result ≡ amount_by (rates_of self.now) (quantities_of self.now) charge k b }
+        ensures upper_bound { result ≤ most_amount }
+    {
+        let column = column_of(charge);
+        amount(
+            self.rates[CHARGES * k + column],
+            self.quantities[CHARGES * b + column],
+        )
+    }
+
+    // One charge for all blocks, on their clouds.
+    fn blocks_cost(&self, charge: Charge, placement: &Placement) -> u64
+        requires { AllBelow 8 placement.now }
+        ensures value { result
+            ≡ blocks_by (rates_of self.now) (quantities_of self.now) charge (length self.now.blocks) placement.now }
+        ensures upper_bound { result ≤ 16 * most_amount }
+    {
+        let n = self.description().block_count();
+        let mut total: u64 = 0;
+        for b in 0..n {
+            total += self.amount_at(charge, usize::from(placement[b]), b);
+        }
+        total
+    }
+
+    // What the copy on an edge is charged. It is worked out even if there is none: a branch around it would be guessed wrong every other time.
+    fn copy_cost(&self, placement: &Placement, e: Edge) -> u64
+        requires { (e.service < 16) × (e.datum < 16) × AllBelow 8 placement.now }
+        ensures value { result ≡ copy_by (rates_of self.now) (quantities_of self.now) placement.now e }
+        ensures upper_bound { result ≤ most_amount }
+    {
+        let here = placement[usize::from(e.service)];
+        let there = placement[usize::from(e.datum)];
+        let copy = self.amount_at(Charge::Copy, usize::from(here), usize::from(e.datum));
+        if here == there { 0 } else { copy }
+    }
+
+    // All copies that the placement makes.
+    fn copies_cost(&self, placement: &Placement) -> u64
+        requires well_formed { WellFormed self.now }
+        requires all_below { AllBelow 8 placement.now }
+        ensures value { result
+            ≡ sum (map (copy_by (rates_of self.now) (quantities_of self.now) placement.now) self.now.edges) }
+        ensures upper_bound { result ≤ 32 * most_amount }
+    {
+        let mut total: u64 = 0;
+        for e in self.description().edges() {
+            total += self.copy_cost(placement, *e);
+        }
+        total
+    }
+
+    // The bill of a placement whose cost is known, as every row's is: what storage and computing leave of the cost is for the transfers.
+    pub fn bill_by(&self, placement: &Placement, whole: u64) -> Bill
+        requires well_formed { WellFormed self.now }
+        requires all_below { AllBelow 8 placement.now × (whole ≡ cost self.now placement.now) }
+        ensures { result ≡ bill_of self.now placement.now }
+    {
+        let stored = self.blocks_cost(Charge::Storage, placement);
+        let storage = stored + self.copies_cost(placement);
+        let cpu = self.blocks_cost(Charge::Cpu, placement);
+        Bill {
+            storage,
+            transfer: whole - storage - cpu,
+            cpu,
+        }
     }
 }
 
 // The same for one placement.
-pub fn bill_of(w: &Words, placement: &Placement, whole: u64) -> Bill
-    requires well_formed { WellFormed (describes w.now) }
-    requires all_below { AllBelow 8 placement.now × (whole ≡ cost (describes w.now) placement.now) }
-    ensures { result ≡ bill_of (describes w.now) placement.now }
+pub fn bill_of(w: &Description, placement: &Placement, whole: u64) -> Bill
+    requires well_formed { WellFormed w.now }
+    requires all_below { AllBelow 8 placement.now × (whole ≡ cost w.now placement.now) }
+    ensures { result ≡ bill_of w.now placement.now }
 {
-    let mut rates = [0u16; RATES];
-    let mut quantities = [0u32; QUANTITIES];
-    fill_rates(w, &mut rates);
-    fill_quantities(w, &mut quantities);
-    bill_by(w, &rates, &quantities, placement, whole)
+    Prices::of(w).bill_by(placement, whole)
 }

@@ -10,7 +10,7 @@ pub fn gigabytes(size: u16) -> u64
     ensures value { result ≡ gigabytes size }
     ensures upper_bound { result ≤ 6554 }
 {
-    let tenths = size as u64;
+    let tenths = u64::from(size);
     let whole = tenths / 10;
     if tenths % 10 + whole % 2 > 5 {
         return whole + 1;
@@ -18,59 +18,47 @@ pub fn gigabytes(size: u16) -> u64
     whole
 }
 
-pub fn charged_of(k: Kind) -> u64
-    ensures value { result ≡ charged_of k }
+pub fn charged_of(kind: Kind) -> u64
+    ensures value { result ≡ charged_of kind }
     ensures upper_bound { result ≤ 6554 }
 {
-    match k {
-        Kind::Datum { size, longevity: _ } => gigabytes(size),
-        Kind::Service {
-            clearance: _,
-            units: _,
-        } => 0,
+    match kind {
+        Kind::Datum { size, .. } => gigabytes(size),
+        Kind::Service { .. } => 0,
     }
 }
 
 // A datum's gigabytes for each month of its longevity.
-pub fn months_of(k: Kind) -> u64
-    ensures value { result ≡ months_of k }
+pub fn months_of(kind: Kind) -> u64
+    ensures value { result ≡ months_of kind }
     ensures upper_bound { result ≤ 6554 * 65535 }
 {
-    match k {
-        Kind::Datum { size, longevity } => gigabytes(size) * (longevity as u64),
-        Kind::Service {
-            clearance: _,
-            units: _,
-        } => 0,
+    match kind {
+        Kind::Datum { size, longevity } => gigabytes(size) * u64::from(longevity),
+        Kind::Service { .. } => 0,
     }
 }
 
-pub fn units_of(k: Kind) -> u64
-    ensures value { result ≡ units_of k }
+pub fn units_of(kind: Kind) -> u64
+    ensures value { result ≡ units_of kind }
     ensures upper_bound { result ≤ 4294967295 }
 {
-    match k {
-        Kind::Datum {
-            size: _,
-            longevity: _,
-        } => 0,
-        Kind::Service {
-            clearance: _,
-            units,
-        } => units as u64,
+    match kind {
+        Kind::Datum { .. } => 0,
+        Kind::Service { units, .. } => u64::from(units),
     }
 }
 
-pub fn storage_of(c: Cloud, k: Kind) -> u64
-    ensures value { result ≡ storage_of c k }
+pub fn storage_of(cloud: Cloud, kind: Kind) -> u64
+    ensures value { result ≡ storage_of cloud kind }
     ensures upper_bound { result ≤ 65535 * (6554 * 65535) }
 {
-    (c.storage as u64) * months_of(k)
+    u64::from(cloud.storage) * months_of(kind)
 }
 
-pub fn cpu_of(c: Cloud, k: Kind) -> u64
-    ensures value { result ≡ cpu_of c k }
+pub fn cpu_of(cloud: Cloud, kind: Kind) -> u64
+    ensures value { result ≡ cpu_of cloud kind }
     ensures upper_bound { result ≤ 65535 * 4294967295 }
 {
-    (c.cpu as u64) * units_of(k)
+    u64::from(cloud.cpu) * units_of(kind)
 }

@@ -1,5 +1,7 @@
 -- Every decoded description is well formed, and, decoded from bytes, has its numbers in their ranges.
 use Prim.Native.Nat.{ℕ, ◌+◌, ◌^◌, ◌≤◌, ◌<◌, zero-le}
+use Rattle.std.specs.Prelude.{Some, None}
+use Rattle.description.specs.Declarations.{Pin}
 use native.Mathlib.Nat.{not-suc-le-zero}
 use native.Mathlib.Omega.{arith}
 use mathlib.Core.Path.{◌≡◌, refl, sym, ap, ap₂, ◌∙◌}
@@ -15,8 +17,6 @@ use Rattle.sequences.proofs.Tests.{both-pass, eqb-turn}
 use Rattle.sequences.proofs.Positions.{snoc-at, everywhere-snoc, everywhere-set, Apart, apart_snoc}
 use Rattle.description.specs.declared.workflow.Block.{Block}
 use Rattle.description.specs.declared.workflow.Kind.{Kind}
-use Rattle.description.specs.declared.workflow.Pin.{Pin}
-use Rattle.description.specs.declared.workflow.Pin.TheVariants.{Free, To}
 use Rattle.description.specs.declared.workflow.Edge.{Edge}
 use Rattle.description.specs.declared.workflow.Pair.{Pair}
 use Rattle.description.specs.declared.workflow.Way.{Way}
@@ -75,8 +75,8 @@ decoded-in_range s d h r = record { rates = decoded-bytes rates (λ k. omega ari
 -- ---- pins
 
 pin-more : (n m : ℕ) → n ≤ m → (p : Pin) → pin_below n p → pin_below m p
-pin-more n m h Free q = tt
-pin-more n m h (To k) q = omega arith
+pin-more n m h None q = tt
+pin-more n m h (Some k) q = omega arith
 
 -- the pin of a block names a declared cloud
 abbrev Pinned : Description → Block → Type 0

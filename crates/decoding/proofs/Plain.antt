@@ -1,5 +1,7 @@
 -- The tests of the format decide what `specs/Commands.antt` says in plain orders and equations: names, repetitions, pins.
 use Prim.Native.Nat.{ℕ, ◌<◌}
+use Rattle.std.specs.Prelude.{Some, None}
+use Rattle.description.specs.Declarations.{Pin}
 use mathlib.Core.Path.{◌≡◌, refl, sym, ap, ◌∙◌}
 use mathlib.Core.Logic.{◌↔◌, inl, inr}
 use mathlib.Core.Bool.{Bool, true, false, not, ◌&&◌, ◌||◌, true≢false, false≢true}
@@ -9,8 +11,6 @@ use lib.Dec.{eqb}
 use borrow.Author.Tests.{ltb-true, lt-ltb, eqb-true, eq-eqb}
 use Rattle.description.specs.declared.workflow.Kind.{Kind}
 use Rattle.description.specs.declared.workflow.Kind.TheVariants.{Datum, Service}
-use Rattle.description.specs.declared.workflow.Pin.{Pin}
-use Rattle.description.specs.declared.workflow.Pin.TheVariants.{Free, To}
 use Rattle.description.specs.declared.workflow.Edge.{Edge}
 use Rattle.description.specs.declared.workflow.Pair.{Pair}
 use Rattle.description.specs.declared.workflow.Way.{Way}
@@ -48,9 +48,9 @@ module _ (d : Description) (b : ℕ) where
 
 -- ---- pins
 
-pub no_pin : (p : Pin) → (is_pinned p ≡ false) ↔ (p ≡ Free)
-no_pin Free = (λ _. refl, λ _. refl)
-no_pin (To k) = (λ e. absurd (true≢false e), λ e. ap is_pinned e)
+pub no_pin : (p : Pin) → (is_pinned p ≡ false) ↔ (p ≡ None)
+no_pin None = (λ _. refl, λ _. refl)
+no_pin (Some k) = (λ e. absurd (true≢false e), λ e. ap is_pinned e)
 
 -- ---- repetitions
 

@@ -2,10 +2,10 @@
 -- there are. This file says what each command asks of what was declared before it, and what it declares; nothing here reads. Bytes meet
 -- the format if they are such commands one after the other and then 00, and declare at least a cloud and a block.
 use Rattle.std.specs.Prelude.{ℕ, ◌≤◌, ◌<◌, ◌≡◌, List, [], ◌∷◌, ◌++◌, length}
+use Rattle.std.specs.Prelude.{None}
 use Rattle.description.specs.declared.workflow.Cloud.{Cloud}
 use Rattle.description.specs.declared.workflow.Block.{Block}
 use Rattle.description.specs.declared.workflow.Kind.TheVariants.{Datum, Service}
-use Rattle.description.specs.declared.workflow.Pin.TheVariants.{Free}
 use Rattle.description.specs.declared.workflow.Pair.{Pair}
 use Rattle.description.specs.declared.workflow.Way.{Way}
 use Rattle.description.specs.declared.workflow.Way.TheVariants.{Reads, Writes}
@@ -19,10 +19,10 @@ abbrev pub cloud_in : List ℕ → Cloud
 cloud_in c = record { label = u8_at c 1; storage = u16_at c 2; inward = u16_at c 4; outward = u16_at c 6; cpu = u16_at c 8 }
 
 abbrev pub datum_in : List ℕ → Block
-datum_in c = record { label = u8_at c 1; kind = Datum (u16_at c 2) (u16_at c 4); pin = Free }
+datum_in c = record { label = u8_at c 1; kind = Datum (u16_at c 2) (u16_at c 4); pin = None }
 
 abbrev pub service_in : List ℕ → Block
-service_in c = record { label = u8_at c 1; kind = Service (u8_at c 2) (u32_at c 3); pin = Free }
+service_in c = record { label = u8_at c 1; kind = Service (u8_at c 2) (u32_at c 3); pin = None }
 
 -- the pair with its two data exchanged
 abbrev pub turned : Pair → Pair
@@ -69,7 +69,7 @@ module _ (c : List ℕ) (d : Description) where
   pub record PinGood : Type 0 where
     pub block : u8_at c 1 < length d.blocks
     pub cloud : u8_at c 2 < length d.clouds
-    pub free : (Declarations·block d (u8_at c 1)).pin ≡ Free
+    pub free : (Declarations·block d (u8_at c 1)).pin ≡ None
 
   -- 07: a pair, at most 8, of two different data; no pair is repeated, in either order
   pub record PairGood : Type 0 where

@@ -1,8 +1,8 @@
 -- The format: what the bytes of a description declare, and which are refused with 1 to 8.
 use Rattle.std.specs.Prelude.{ℕ, zero, suc, pred, ◌+◌, ◌*◌, Bool, true, false, not, ◌&&◌, ◌||◌, cond, List, [], ◌∷◌, length, get_or, ltb, leb, eqb}
+use Rattle.std.specs.Prelude.{None}
 use Rattle.std.proofs.Math.Option.{Option, none, some}
 use Rattle.description.specs.declared.workflow.Kind.TheVariants.{Datum, Service}
-use Rattle.description.specs.declared.workflow.Pin.TheVariants.{Free}
 use Rattle.description.specs.declared.workflow.Edge.{Edge}
 use Rattle.description.specs.declared.workflow.Pair.{Pair}
 use Rattle.description.specs.declared.workflow.Way.{Way}
@@ -60,7 +60,7 @@ abbrev pub datum_at : List ℕ → Description → Command
 datum_at s d = record {
   width = 6;
   faults = (4, leb 16 (length d.blocks)) ∷ (5, no_label (u8_at s 1)) ∷ [];
-  after = with_block d (record { label = u8_at s 1; kind = Datum (u16_at s 2) (u16_at s 4); pin = Free });
+  after = with_block d (record { label = u8_at s 1; kind = Datum (u16_at s 2) (u16_at s 4); pin = None });
 }
 
 -- 03: location 1 and clearance 1, both labels, cpu units 4
@@ -68,7 +68,7 @@ abbrev pub service_at : List ℕ → Description → Command
 service_at s d = record {
   width = 7;
   faults = (4, leb 16 (length d.blocks)) ∷ (5, no_label (u8_at s 1) || no_label (u8_at s 2)) ∷ [];
-  after = with_block d (record { label = u8_at s 1; kind = Service (u8_at s 2) (u32_at s 3); pin = Free });
+  after = with_block d (record { label = u8_at s 1; kind = Service (u8_at s 2) (u32_at s 3); pin = None });
 }
 
 -- 04 and 05: service 1, datum 1. At most 32 edges, reads and writes together.

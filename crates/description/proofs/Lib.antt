@@ -1,5 +1,3 @@
-pub mod Arrays
 pub mod Fields
 pub mod Named
-pub mod Parts
 pub mod Puts

@@ -1,15 +1,19 @@
 -- What a description declares, and its names.
 use Rattle.std.specs.Prelude.{ℕ, Bool, true, false, not, ◌&&◌, List, [], ◌∷◌, ◌++◌, length, get_or, set, ltb, eqb}
+use Rattle.std.specs.Prelude.{Some, None}
+use Rattle.std.specs.Prelude as std
 use Rattle.description.specs.declared.workflow.Cloud.{Cloud}
 use Rattle.description.specs.declared.workflow.Block.{Block}
 use Rattle.description.specs.declared.workflow.Kind.{Kind}
 use Rattle.description.specs.declared.workflow.Kind.TheVariants.{Datum, Service}
-use Rattle.description.specs.declared.workflow.Pin.{Pin}
-use Rattle.description.specs.declared.workflow.Pin.TheVariants.{Free, To}
 use Rattle.description.specs.declared.workflow.Edge.{Edge}
 use Rattle.description.specs.declared.workflow.Pair.{Pair}
 use Rattle.description.specs.declared.workflow.Way.{Way}
 use Rattle.description.specs.declared.workflow.Way.TheVariants.{Reads, Writes}
+
+-- where a block may stand: anywhere, or on one cloud alone
+abbrev pub Pin : Type 0
+Pin = std.Option ℕ
 
 -- What a description declares. Clouds, blocks, edges and pairs of data that must never meet are in order of appearance: the number of an
 -- element is its position. A block has its pin with it.
@@ -39,7 +43,7 @@ abbrev pub no_cloud : Cloud
 no_cloud = record { label = 0; storage = 0; inward = 0; outward = 0; cpu = 0 }
 
 abbrev pub no_block : Block
-no_block = record { label = 0; kind = Datum 0 0; pin = Free }
+no_block = record { label = 0; kind = Datum 0 0; pin = None }
 
 abbrev pub no_edge : Edge
 no_edge = record { way = Reads; service = 0; datum = 0 }
@@ -61,7 +65,7 @@ pair d n = get_or d.pairs n no_pair
 
 -- the block with a pin to cloud k
 abbrev pub pinned : Block → ℕ → Block
-pinned b k = record { label = b.label; kind = b.kind; pin = To k }
+pinned b k = record { label = b.label; kind = b.kind; pin = Some k }
 
 abbrev pub with_pin : Description → ℕ → ℕ → Description
 with_pin d b k = record { clouds = d.clouds; blocks = set d.blocks b (pinned (block d b) k); edges = d.edges; pairs = d.pairs }
@@ -72,8 +76,8 @@ is_datum (Datum size longevity) = true
 is_datum (Service clearance units) = false
 
 abbrev pub is_pinned : Pin → Bool
-is_pinned Free = false
-is_pinned (To k) = true
+is_pinned None = false
+is_pinned (Some k) = true
 
 abbrev pub is_write : Way → Bool
 is_write Reads = false

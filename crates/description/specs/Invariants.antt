@@ -1,10 +1,10 @@
 -- What holds of every decoded description: the format's limits, names that are declared, no clashes, and numbers in their ranges.
 use Rattle.std.specs.Prelude.{ℕ, ◌^◌, ◌≤◌, ◌<◌, ◌≡◌, true, length}
+use Rattle.std.specs.Prelude.{Some, None}
+use Rattle.description.specs.Declarations.{Pin}
 use Rattle.description.specs.declared.workflow.Cloud.{Cloud}
 use Rattle.description.specs.declared.workflow.Kind.{Kind}
 use Rattle.description.specs.declared.workflow.Kind.TheVariants.{Datum, Service}
-use Rattle.description.specs.declared.workflow.Pin.{Pin}
-use Rattle.description.specs.declared.workflow.Pin.TheVariants.{Free, To}
 use Rattle.description.specs.Declarations.{Description, cloud, block, edge, pair, names_service, names_datum, is_write, same_edge}
 
 -- at most 8 clouds, 16 blocks, 32 edges, 8 pairs
@@ -21,8 +21,8 @@ low_clearance (Service clearance units) = clearance ≤ 63
 
 -- a pin names one of n clouds
 abbrev pub pin_below : ℕ → Pin → Type 0
-pin_below n Free = Unit {0}
-pin_below n (To k) = k < n
+pin_below n None = Unit {0}
+pin_below n (Some k) = k < n
 
 -- What is said of clouds and blocks holds at every number: past the last one all fields are 0, and there is no pin.
 pub record WellFormed (d : Description) : Type 0 where
@@ -65,4 +65,9 @@ pub record InRange (d : Description) : Type 0 where
 -- what the bound on costs needs
 pub record Bounded (d : Description) : Type 0 where
   pub limits : Limits d
+  pub in_range : InRange d
+
+-- what decoding ensures
+pub record Decoded (d : Description) : Type 0 where
+  pub well_formed : WellFormed d
   pub in_range : InRange d

@@ -1,4 +1,4 @@
 pub mod Declarations
 pub mod Invariants
-pub mod Layout
+pub mod Most
 pub mod Meaning

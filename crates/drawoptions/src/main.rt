@@ -2,7 +2,7 @@
 // prints, and is there to be compared with it: a draw is a walk over all placements, so a long list takes a long time.
 #![tactic(auto)]
 
-ghost use Rattle.std.specs.Prelude.{◌≤◌, min, ◌≡◌, ℕ, length, take, IfErr, IfSome, OnErr, OnOk};
+ghost use Rattle.std.specs.Prelude.{◌≤◌, ◌≡◌, ℕ, length, take, IfErr, IfSome, OnErr, OnOk};
 ghost use Rattle.std.specs.Io.KnownBytes.{Appends};
 ghost use Rattle.standard_input.specs.Failures.{BreaksOff, NotWritten, OfOutput};
 ghost use Rattle.packing.specs.Packing.{pack};
@@ -10,11 +10,10 @@ ghost use Rattle.judging.specs.Calls.{read_call};
 ghost use Rattle.lister.specs.Answers.{draw_answer};
 ghost use Rattle.drawoptions.specs.Drawing.{most_digits, line_bytes, digits_in, row_text, line_for, line_at, lines_before, Front};
 
-use costs::answers::Bill;
-use judging::answers::Acceptance;
 use list_text::rows::put_rows;
-use lister::{Answer, Drawn, chain};
-use standard_input::{Failure, Input, read_full, report, write_full};
+use lister::chain;
+use refusals::Refusal;
+use standard_input::{Failure, filled, read_full, report, write_full};
 use std::io;
 use std::io::{Read, Write};
 use survey::Row;
@@ -30,43 +29,24 @@ const LINE_BYTES: usize = 101;
 // No description has more rows.
 const MOST_ROWS: usize = 65536;
 
-fn at_most_digits(blocks: usize) -> usize
-    ensures { result ≡ min blocks most_digits }
-{
-    if blocks < DIGITS { blocks } else { DIGITS }
-}
-
 // How many digits each row has; none for a refusal.
 fn digits_of(description: &[u8]) -> usize
     ensures { (result ≡ digits_in (read_call description.now)) × (result ≤ most_digits) }
 {
-    let acceptance = judging::read(description);
-    match acceptance {
-        Acceptance::Accepted {
-            clouds: _,
-            blocks,
-            edges: _,
-        } => at_most_digits(blocks),
-        Acceptance::Refused(_) => 0,
+    match judging::read(description) {
+        Ok(counts) => counts.blocks.min(DIGITS),
+        Err(_) => 0,
     }
 }
 
-fn wide(byte: u8) -> u64
-    ensures { (result ≡ byte) × (result ≤ 255) }
-{
-    byte as u64
-}
-
 // The clouds of a row as one number, to the base 8.
-fn packed(placement: [u8; 16], digits: usize) -> u64
-    requires { digits ≤ most_digits }
-    ensures { result ≡ pack (take digits placement) }
+fn packed(clouds: &[u8]) -> u64
+    requires { length clouds.now ≤ most_digits }
+    ensures { result ≡ pack clouds.now }
 {
-    let mut place: u64 = 0;
-    let mut b = 0;
-    while b < digits {
-        place = place * 8 + wide(placement[b]);
-        b += 1;
+    let mut place = 0;
+    for &cloud in clouds {
+        place = place * 8 + u64::from(cloud);
     }
     place
 }
@@ -77,40 +57,39 @@ fn put_row(row: Row, digits: usize, text: &mut [u8]) -> usize
     requires { (digits ≤ most_digits) × (length text.old ≡ line_bytes) }
     ensures { Front (row_text digits row) result text.new }
 {
-    let placement = row.placement;
-    let place = packed(placement, digits);
-    let bill: Bill = row.bill;
+    let place = packed(&row.placement[..digits]);
+    let bill = row.bill;
     let words = [row.cost, place, bill.storage, bill.transfer, bill.cpu];
     put_rows(&words, digits, text)
 }
 
-fn put_line(drawn: Drawn, draw: usize, digits: usize, text: &mut [u8]) -> usize
+fn put_line(
+    drawn: Result<Option<Row>, Refusal>,
+    draw: usize,
+    digits: usize,
+    text: &mut [u8],
+) -> usize
     requires { (digits ≤ most_digits) × (length text.old ≡ line_bytes) }
     ensures { Front (line_for digits draw (draw_answer drawn)) result text.new }
 {
-    let answer = drawn.answer;
-    let row = drawn.row;
-    match answer {
-        Answer::Found => put_row(row, digits, text),
-        Answer::Finished => list_text::put_options(draw as u64, text, 0),
-        Answer::Refused(r) => list_text::put_refusal(r.number, r.place as u64, text, 0),
+    match drawn {
+        Ok(Some(row)) => put_row(row, digits, text),
+        Ok(None) => list_text::put_options(draw as u64, text, 0),
+        Err(refusal) => {
+            let number = refusal.fault.number();
+            list_text::put_refusal(number, refusal.place as u64, text, 0)
+        }
     }
 }
 
-// Hands the front of the text to the writer; nothing else does. No contract can say what becomes of bytes that standard output took, so this
-// one asks before: this is the line of that draw of the description's chain.
-fn write_line<W: Write>(
-    out: &mut W,
-    description: &[u8],
-    draw: usize,
-    text: &[u8],
-    end: usize,
-) -> io::Result<()>
-    requires { Front (line_at description.now draw) end text.now }
+// Hands a text to the writer; nothing else does. No contract can say what becomes of bytes that standard output took, so this one asks before:
+// this is the line of that draw of the description's chain.
+fn write_line<W: Write>(out: &mut W, description: &[u8], draw: usize, text: &[u8]) -> io::Result<()>
+    requires { text.now ≡ line_at description.now draw }
     ensures ok { OnOk result (Appends (W.contents out.old) (W.contents out.new) (line_at description.now draw)) }
     ensures err { OnErr result (BreaksOff (W.contents out.old) (W.contents out.new) (line_at description.now draw)) }
 {
-    write_full(out, &text[..end])
+    write_full(out, text)
 }
 
 // Draws until there is no row, and writes a line for each draw: a row, and at the end how many there were, or why there is none. The clause says
@@ -122,27 +101,16 @@ fn write_draws<W: Write>(out: &mut W, description: &[u8], text: &mut [u8]) -> io
 {
     let digits = digits_of(description);
     let mut cursor = chain::begin();
-    let mut draw = 0;
-    while draw <= MOST_ROWS {
+    for draw in 0..=MOST_ROWS {
         let link = chain::advance(description, cursor);
-        let drawn = link.drawn;
-        let end = put_line(drawn, draw, digits, text);
-        write_line(out, description, draw, text, end)?;
-        let answer = drawn.answer;
-        let Answer::Found = answer else {
+        let end = put_line(link.drawn, draw, digits, text);
+        write_line(out, description, draw, &text[..end])?;
+        let Ok(Some(_)) = link.drawn else {
             return Ok(());
         };
-        let next = link.next;
-        cursor = next;
-        draw += 1;
+        cursor = link.next;
     }
     Ok(())
-}
-
-fn space() -> [u8; SPACE]
-    ensures { length result ≡ 4096 }
-{
-    [0; SPACE]
 }
 
 // Draws the rows of the description that is read. As in `listoptions`, what does not fit into the space need not be read.
@@ -154,16 +122,10 @@ fn draw_input<R: Read, W: Write>(reader: &mut R, out: &mut W) -> Result<(), Fail
     ensures broken { IfErr result (λ e. OfOutput e → IfSome (R.remaining reader.old)
         (λ s. (n : ℕ) × BreaksOff (W.contents out.old) (W.contents out.new) (lines_before (take 4096 s) n))) }
 {
-    let mut space = space();
-    let count = match read_full(reader, &mut space) {
-        Input::Bytes(count) => count,
-        Input::Failed(error) => return Err(Failure::Input(error)),
-    };
+    let mut space: [u8; SPACE] = filled(0);
+    let count = read_full(reader, &mut space).map_err(Failure::Input)?;
     let mut text = [0u8; LINE_BYTES];
-    match write_draws(out, &space[..count], &mut text) {
-        Ok(()) => Ok(()),
-        Err(error) => Err(Failure::Output(error)),
-    }
+    write_draws(out, &space[..count], &mut text).map_err(Failure::Output)
 }
 
 fn main(rt: HostRuntime) {

@@ -1,4 +1,3 @@
-pub mod Admissions
 pub mod Examples
 pub mod Judged
 pub mod Marks

@@ -1,100 +1,61 @@
-// What Read accepts: a decoded description that keeps rules 2 to 4 and has few enough candidates.
-ghost use Rattle.std.specs.Prelude.{◌≡◌, replicate};
-ghost use Rattle.description.specs.Meaning.{describes, Cleared};
-ghost use Rattle.security.specs.Soundness.{sound, read};
-ghost use Rattle.judging.specs.Answers.{admission_of, counted, masks_after, verdict_on};
-ghost use Rattle.judging.specs.Calls.{judged, masked};
+// What calls begin with: those that need no more than an accepted description, and those that need a secure placement.
+ghost use Rattle.std.specs.Prelude.{◌≡◌};
+ghost use Rattle.description.specs.Invariants.{Decoded};
+ghost use Rattle.description.specs.Meaning.{outcome_of, Cleared};
+ghost use Rattle.judging.specs.Answers.{admission_of, counted, verdict_on};
+ghost use Rattle.judging.specs.Calls.{judged, judge_call};
+ghost use Rattle.refusals.specs.Refusals.{answered};
+ghost use Rattle.security.specs.Answers.{judge_answer};
+ghost use Rattle.security.specs.Soundness.{read, sound};
 
-use crate::answers::Admission;
-use description::words::{Words, clear};
-use description::workflow::{Outcome, Refusal};
+use admission::admit;
+use description::workflow::Description;
 use reading::decode;
-use security::answers::{Found, Rule, Verdict};
-use soundness::first_breaking_rule2;
-use soundness::masks::{Masks, POSITIONS, masks_of};
-use verdicts::{first_breaking, verdict};
+use refusals::Refusal;
+use security::answers::Verdict;
+use verdicts::verdict;
 
-// The numbers that a decoded description is refused with.
-const RULE_2: u8 = 9;
-
-const RULE_3: u8 = 10;
-
-const RULE_4: u8 = 11;
-
-const TOO_MANY_CANDIDATES: u8 = 12;
-
-const MOST_CANDIDATES: u64 = 65536;
-
-fn refused(number: u8, place: usize) -> Admission
-    ensures { result ≡ Admission.Refused (record { number = number; place = place }) }
-{
-    Admission::Refused(Refusal { number, place })
-}
-
-// Rules 2 to 4 and the limit on candidates, in the order of their numbers. The masks are worked out here, once for a call, in the lent array
-// itself: a copy would wait for bytes that were stored one by one. If there are too many candidates, they are cleared again.
-fn soundness(w: &Words, masks: &mut Masks) -> Admission
-    requires { masks.old ≡ replicate 16 0 }
-    ensures w_value { admission_of result (describes w.now) ≡ counted (sound (describes w.now)) }
-    ensures masks_after { masks.new ≡ masks_after (masked (sound (describes w.now))) masks.old }
-{
-    let block = first_breaking_rule2(w);
-    if let Found::At(b) = block {
-        return refused(RULE_2, b);
-    }
-    let read = first_breaking(w, [0u8; 16], Rule::Rule3);
-    if let Found::At(n) = read {
-        return refused(RULE_3, n);
-    }
-    let write = first_breaking(w, [0u8; 16], Rule::Rule4);
-    if let Found::At(n) = write {
-        return refused(RULE_4, n);
-    }
-    let candidates = masks_of(w, masks);
-    let too_many = MOST_CANDIDATES < candidates;
-    if too_many {
-        *masks = [0u8; POSITIONS];
-        return refused(TOO_MANY_CANDIDATES, 0);
-    }
-    Admission::Accepted(candidates)
-}
-
-// What Read accepts, decoded into the words, with its masks; a refusal leaves the words cleared and the masks unchanged.
-pub fn accept_with_masks(description: &[u8], w: &mut Words, masks: &mut Masks) -> Admission
-    requires { masks.old ≡ replicate 16 0 }
-    ensures w_after { admission_of result (describes w.new) ≡ counted (read description.now) }
+// What Read accepts, with the number of its candidates; after a refusal nothing is declared.
+#[tactic(auto, using(security::proofs::Sound::read_is))]
+pub fn accept(description: &[u8], w: &mut Description) -> Result<u64, Refusal>
+    ensures w_after { admission_of result w.new ≡ counted (read description.now) }
     ensures cleared { Cleared (read description.now) w.new }
-    ensures masks_after { masks.new ≡ masks_after (masked (read description.now)) masks.old }
 {
-    let outcome = decode(description, w);
-    if let Outcome::Refused(r) = outcome {
-        return Admission::Refused(r);
-    }
-    let admission = soundness(w, masks);
-    if let Admission::Refused(_) = admission {
-        clear(w);
+    decode(description, w)?;
+    let admission = candidates_of(w);
+    if admission.is_err() {
+        w.clear();
     }
     admission
 }
 
-// The same for a call that needs no masks.
-pub fn accept(description: &[u8], w: &mut Words) -> Admission
-    ensures w_after { admission_of result (describes w.new) ≡ counted (read description.now) }
-    ensures cleared { Cleared (read description.now) w.new }
+// How many candidates a decoded description has, if it is admitted.
+fn candidates_of(w: &Description) -> Result<u64, Refusal>
+    requires { Decoded w.now }
+    ensures { admission_of result w.now ≡ counted (sound w.now) }
 {
-    let mut masks = [0u8; POSITIONS];
-    accept_with_masks(description, w, &mut masks)
+    let admitted = admit(w)?;
+    Ok(admitted.choices().candidates())
 }
 
-// For a call that needs a secure placement: what Read refuses, then what Judge refuses; if neither does, the words hold the description.
-#[tactic(auto, unfolding(crate::specs::Calls::judged))]
-pub fn accept_secure(description: &[u8], placement: [u8; 16], w: &mut Words) -> Verdict
-    ensures { verdict_on result (describes w.new) ≡ judged description.now placement }
+// What Read refuses, then what Judge refuses; if neither does, w is the description.
+#[tactic(auto, using(security::proofs::Sound::read_is), unfolding(crate::specs::Calls::judged, crate::specs::Calls::judge_call))]
+pub fn secured(description: &[u8], placement: [u8; 16], w: &mut Description) -> Result<(), Refusal>
+    ensures value { answered (λ u. u) result ≡ judge_call description.now placement }
+    ensures w_after { outcome_of result w.new ≡ judged description.now placement }
 {
-    let mut masks = [0u8; POSITIONS];
-    let admission = accept_with_masks(description, w, &mut masks);
-    match admission {
-        Admission::Accepted(_) => verdict(w, &masks, placement),
-        Admission::Refused(r) => Verdict::Refused(r),
+    decode(description, w)?;
+    let accepted = admit(w)?;
+    verdict(accepted.choices(), placement).ok()
+}
+
+// The same as a verdict.
+pub fn accept_secure(description: &[u8], placement: [u8; 16], w: &mut Description) -> Verdict
+    ensures value { judge_answer result ≡ judge_call description.now placement }
+    ensures w_after { verdict_on result w.new ≡ judged description.now placement }
+{
+    match secured(description, placement, w) {
+        Ok(()) => Verdict::Secure,
+        Err(refusal) => Verdict::Refused(refusal),
     }
 }

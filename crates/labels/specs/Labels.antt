@@ -1,7 +1,9 @@
 -- Labels: clouds and data have one, services have two, a location and a clearance. Bits 0 to 3 are the level, bit 4 is the embargo mark, bit 5
 -- the source mark.
-use Rattle.std.specs.Prelude.{ℕ, ◌/◌, ◌%◌, ◌≤◌, ◌≡◌, Bool, not, ◌&&◌, ◌||◌, cond, ltb, leb}
+use Rattle.std.specs.Prelude.{ℕ, ◌+◌, ◌/◌, ◌%◌, ◌≤◌, ◌≡◌, Bool, not, ◌&&◌, ◌||◌, cond, ltb, leb, List, map}
+use Rattle.sequences.specs.Arrays.{table}
 use Rattle.sequences.specs.Bits.{bit, bits}
+use Rattle.sequences.specs.Lists.{below}
 
 -- a byte above 63 is no label
 abbrev pub no_label : ℕ → Bool
@@ -31,6 +33,10 @@ pub record Covers (high low : ℕ) : Type 0 where
 -- the table's entry: 1 if the row's label covers the column's
 abbrev pub entry_of : (row column : ℕ) → ℕ
 entry_of row column = cond (covers row column) 1 0
+
+-- the table: 64 rows of 64 entries, as digits in ASCII
+unfoldable pub digit_rows : List (List ℕ)
+digit_rows = map (λ row. table 64 (λ column. 48 + entry_of row column)) (below 64)
 
 -- a row of 64 entries in a word, bit c for column c
 unfoldable pub row_of : ℕ → ℕ

@@ -1,15 +1,15 @@
 // Prints the table of labels: each row as 64 digits and a newline byte.
 #![tactic(auto)]
 
-ghost use Rattle.std.specs.Prelude.{◌<◌, ◌≡◌, replicate, OnErr, OnOk};
+ghost use Rattle.std.specs.Prelude.{◌<◌, ◌≡◌, OnErr, OnOk};
 ghost use Rattle.std.specs.Io.KnownBytes.{Appends};
 ghost use Rattle.standard_input.specs.Failures.{BreaksOff};
 ghost use Rattle.labeltable.specs.Printed.{byte_at, printed};
 
 use labels::{LABELS, covers};
 use standard_input::{Failure, report, write_full};
-use std::io;
 use std::io::Write;
+use std::{array, io};
 
 const LINE: usize = LABELS + 1;
 
@@ -30,23 +30,10 @@ fn byte_at(k: usize) -> u8
     b'0'
 }
 
-// A separate function for the array: if it were made in place, the proof would compare lists of that length.
-fn blank() -> [u8; TEXT]
-    ensures { result ≡ replicate 4160 0 }
-{
-    [0; TEXT]
-}
-
 fn text() -> [u8; TEXT]
     ensures { result ≡ printed }
 {
-    let mut text = blank();
-    let mut k = 0;
-    while k < TEXT {
-        text[k] = byte_at(k);
-        k += 1;
-    }
-    text
+    array::from_fn(byte_at)
 }
 
 // Hands the text to the writer; nothing else does. No contract can say what becomes of bytes that standard output took, so this one asks

@@ -1,7 +1,7 @@
 -- The decimal of a number: a single digit, or the decimal of n / 10 and one more digit. So it has only digits, is read back, has no
 -- leading zero, and has at most 20 digits for 64 bits.
-use Prim.Native.Nat.{ℕ, zero, suc, ◌+◌, ◌-◌, ◌*◌, ◌/◌, ◌^◌, ◌≤◌, ◌<◌}
-use native.Mathlib.Nat.{pow-suc, div-lt_iff_lt-mul}
+use Prim.Native.Nat.{ℕ, zero, suc, ◌+◌, ◌-◌, ◌*◌, ◌/◌, ◌^◌, ◌≤◌, ◌<◌, max}
+use native.Mathlib.Nat.{pow-suc, div-lt_iff_lt-mul, le-div_iff_mul-le, one-le-pow}
 use native.Mathlib.Decide.{dec_lt}
 use native.Mathlib.Omega.{arith}
 use mathlib.Core.Path.{◌≡◌, refl, sym, ap, ◌∙◌}
@@ -10,6 +10,8 @@ use lib.ListN.{length, get_or, length-append, get_or-append}
 use lib.Seq.{get_or_at}
 use lib.Dec.{lit≤}
 use borrow.Author.Tests.{lt-ltb, le-ltb}
+use Rattle.std.specs.Fmt.{decimal as std_decimal}
+use Rattle.std.proofs.lemmas.Fmt.{decimal_from_appends, length-decimal-le_succ}
 use Rattle.list_text.specs.Lines.{digit, digits, decimal}
 use Rattle.list_text.specs.Statements.{value_after, value, Decimal}
 
@@ -110,3 +112,39 @@ fit_words a b c d h₁ h₂ h₃ h₄ = omega (arith, fits_word a h₁, fits_wor
 
 pub fits_byte : (n : ℕ) → n < 2 ^ 8 → length (decimal n) ≤ 3
 fits_byte n h = length-bound 2 n (omega arith)
+
+-- std's decimal of a number is this one
+pub std-decimal : (n : ℕ) → n < 2 ^ 64 → std_decimal n ≡ decimal n
+unfolding decimal
+std-decimal n h = sym (decimal_from_appends digits (record { one = one; more = more-places }) (suc n) n h (omega (arith, length-decimal-le_succ n h)))
+  where
+    one : (k n : ℕ) → n < 10 → digits (suc k) n ≡ (48 + n) ∷ []
+    one k n l = one_place k n l ∙ ap (λ (d : ℕ). d ∷ []) (omega arith)
+
+-- a number from a power of ten on has more digits than the power
+length-least : (k n : ℕ) → 10 ^ k ≤ n → suc k ≤ length (decimal n)
+length-least zero n h = go (dec_lt n 10)
+  where
+    go : Dec (n < 10) → 1 ≤ length (decimal n)
+    go (yes l) = rw (small n l) (lit≤ tt)
+    go (no l) = let l : 10 ≤ n = omega arith in rw (large n l, length-append) (omega arith)
+length-least (suc k) n h =
+    let whole : 10 ^ k * 10 ≤ n = rw pow-suc at h in
+    let tenth : 10 ^ k ≤ n / 10 = (le-div_iff_mul-le {k = 10} (omega arith)).1 whole in
+    let some : 1 ≤ 10 ^ k = one-le-pow k 10 (omega arith) in
+    let least = length-least k (n / 10) tenth in
+    rw (large n (omega arith), length-append) (omega arith)
+
+-- The number of digits, by the greatest power of ten that is not above the number. Zero has as many as one.
+pub places_are : (n k : ℕ) → 10 ^ k ≤ max n 1 → max n 1 < 10 * 10 ^ k → k + 1 ≡ length (decimal n)
+places_are zero k low high =
+    let some = length-least k 1 low in
+    let few = length-bound k 1 (rw pow-suc (omega arith)) in
+    let one = ap length (small 1 (omega arith)) in
+    let none = ap length (small 0 (omega arith)) in
+    omega arith
+places_are (suc n) k low high =
+    let same : max (suc n) 1 ≡ suc n = omega arith in
+    let some = length-least k (suc n) (rw same at low) in
+    let few = length-bound k (suc n) (rw pow-suc (omega arith)) in
+    omega arith

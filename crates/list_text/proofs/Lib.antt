@@ -1,7 +1,6 @@
 pub mod RowLines
 pub mod Decimals
 pub mod Examples
-pub mod Making
 pub mod Placing
 pub mod Sizes
 pub mod Writing

@@ -1,23 +1,24 @@
 -- The lines of many rows: how long a line is, what its parts are, and that the lines of rows one after the other are those of all.
-use Prim.Native.Nat.{ℕ, zero, suc, ◌+◌, ◌*◌, ◌/◌, ◌%◌, ◌≤◌, ◌<◌, ◌^◌}
+use Prim.Native.Nat.{ℕ, zero, suc, ◌+◌, ◌*◌, ◌/◌, ◌≤◌, ◌<◌, ◌^◌}
 use native.Mathlib.Omega.{arith}
 use mathlib.Core.Path.{◌≡◌, refl, sym, ap, ◌∙◌}
-use mathlib.Core.List.{List, [], ◌∷◌, ◌++◌, map, append-nil, append_assoc, map-append}
-use lib.ListN.{length, get_or, take, drop, length-append, length-map}
+use mathlib.Core.List.{List, [], ◌∷◌, ◌++◌, map, append-nil, append_assoc}
+use lib.ListN.{length, get_or, take, drop, length-append, length-map, get_or-map}
 use lib.Seq.{take_all, take-nil}
 use Rattle.sequences.proofs.Loops.{rest}
 use Rattle.packing.specs.Packing.{digits as clouds}
-use Rattle.packing.proofs.Digits.{digits_last, digits-length}
+use Rattle.packing.proofs.Digits.{digits-length}
 use Rattle.list_text.specs.Lines.{digit, decimal, amount_text, row_line}
 use Rattle.list_text.specs.RowLines.{words_of_row, bytes_of_line, words_line, front_text, lines_of}
 use Rattle.list_text.specs.Statements.{RowLines}
 use Rattle.list_text.proofs.Decimals.{fit_words}
 
--- one more cloud, after those of an eighth of the number
-pub last-cloud : (n p : ℕ) → map digit (clouds (suc n) p) ≡ map digit (clouds n (p / 8)) ++ ((48 + p % 8) ∷ [])
-last-cloud n p =
-    let e : digit (p % 8) ≡ 48 + p % 8 = omega arith in
-    ap (map digit) (digits_last n p) ∙ map-append digit (clouds n (p / 8)) (p % 8 ∷ []) ∙ ap (λ d. map digit (clouds n (p / 8)) ++ (d ∷ [])) e
+-- the byte of a block's cloud
+pub cloud_byte : (blocks place block cloud : ℕ) → cloud < 8 → cloud ≡ get_or (clouds blocks place) block 0
+    → 48 + cloud ≡ get_or (map digit (clouds blocks place)) block (digit 0)
+cloud_byte blocks place block cloud low e =
+    let d : 48 + cloud ≡ digit cloud = omega arith in
+    d ∙ ap digit e ∙ sym (get_or-map digit (clouds blocks place) block 0)
 
 pub clouds-size : (n p : ℕ) → length (map digit (clouds n p)) ≡ n
 clouds-size n p = length-map (clouds n p) digit ∙ digits-length n p
@@ -41,10 +42,10 @@ pub front_length : (blocks cost place : ℕ) → length (front_text blocks cost 
 unfolding front_text
 front_length blocks cost place = let n = clouds-size blocks place in simp length-append (omega arith)
 
-pub line-length : (blocks cost place storage transfer cpu : ℕ)
+pub line_length : (blocks cost place storage transfer cpu : ℕ)
     → length (words_line blocks cost place storage transfer cpu)
     ≡ length (decimal cost) + blocks + length (decimal storage) + length (decimal transfer) + length (decimal cpu) + 5
-line-length blocks cost place storage transfer cpu =
+line_length blocks cost place storage transfer cpu =
     let n = front_length blocks cost place in
     ap length (line-parts blocks cost place storage transfer cpu) ∙ simp length-append (omega arith)
 
@@ -53,7 +54,7 @@ row-lines = record {
   line =
       λ blocks cost place storage transfer cpu h l₁ l₂ l₃ l₄.
       (let n = fit_words cost storage transfer cpu l₁ l₂ l₃ l₄ in
-      let e = line-length blocks cost place storage transfer cpu in
+      let e = line_length blocks cost place storage transfer cpu in
       record { some = omega arith; few = omega arith });
 }
 

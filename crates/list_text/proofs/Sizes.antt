@@ -1,9 +1,16 @@
 -- How long the lines are, from the lengths of their parts.
+use Prim.Native.Nat.{ℕ, min}
 use native.Mathlib.Omega.{arith}
-use lib.ListN.{length-append}
+use mathlib.Core.Path.{◌≡◌}
+use mathlib.Core.List.{List, map}
+use lib.ListN.{length, take, length-append, length-map, length-take}
+use Rattle.list_text.specs.Lines.{digit}
 use Rattle.list_text.specs.Statements.{Sizes}
 use Rattle.list_text.proofs.Decimals.{fits_word, fit_words, fits_byte}
-use Rattle.list_text.proofs.Making.{clouds-length}
+
+-- the digits of the clouds, one for each block
+clouds-length : (blocks : ℕ) (p : List ℕ) → length p ≡ 16 → length (map digit (take blocks p)) ≡ min blocks 16
+clouds-length blocks p h = simp (length-map, length-take, h)
 
 pub sizes : Sizes
 sizes = record {

@@ -1,17 +1,12 @@
--- Bytes written into a buffer: a text after a text, a byte after a text, and a text from its last byte to its first.
+-- Bytes written into a buffer: a text after a text, and a byte after a text.
 use Prim.Native.Nat.{ℕ, suc, ◌+◌, ◌≤◌, ◌<◌}
-use native.Mathlib.Nat.{add-zero}
 use native.Mathlib.Numerals.{add-one}
 use native.Mathlib.Omega.{arith}
 use mathlib.Core.Path.{◌≡◌, refl, sym, ap, ap₂, ◌∙◌}
 use mathlib.Core.List.{List, [], ◌∷◌, ◌++◌, append_assoc}
-use lib.ListN.{length, take, drop, set, length-append, length-drop, length-set, take-append-drop}
-use lib.Seq.{set_split, take_at, drop_at, drop-drop, length-take-le, append_snoc, take-set-le}
+use lib.ListN.{length, take, drop, set, length-append, length-drop, take-append-drop}
+use lib.Seq.{set_split, take_at, drop_at, drop-drop, length-take-le, append_snoc}
 use Rattle.list_text.specs.Lines.{written}
-
--- a byte stored, and what is after it
-pub stored_at : (l : List ℕ) (i b : ℕ) → i < length l → drop i (set l i b) ≡ b ∷ drop (suc i) l
-stored_at l i b h = ap (drop i) (set_split l i b h) ∙ drop_at (take i l) _ i (length-take-le i l (omega arith))
 
 module _ (text buffer : List ℕ) (at : ℕ) (room : at + length text ≤ length buffer) where
   front_length : length (take at buffer ++ text) ≡ at + length text
@@ -67,30 +62,8 @@ module _ {text first buffer : List ℕ} {at end : ℕ} (p : Put text first buffe
       let l : length buffer ≡ length first = ap length p.bytes ∙ written-length text first at (omega (arith, p.ends)) in
       then-put (b ∷ []) (omega arith) refl (one_byte buffer end b (omega arith))
 
--- A text is written from its last byte to its first: `rest` is still to be written, and the bytes after it are in their places.
-pub record Filling (text rest first buffer : List ℕ) (at : ℕ) : Type 0 where
-  pub back : rest ++ drop (at + length rest) buffer ≡ text ++ drop (at + length text) first
-  pub front : take at buffer ≡ take at first
-  pub size : length buffer ≡ length first
-
-pub begun : (text buffer : List ℕ) (at : ℕ) → Filling text text buffer buffer at
-begun text buffer at = record { back = refl; front = refl; size = refl }
-
--- one more byte, the last of the rest
-pub filled_more : {text rest first buffer : List ℕ} {at : ℕ} (shorter : List ℕ) (i b : ℕ) → Filling text rest first buffer at
-    → rest ≡ shorter ++ (b ∷ []) → i ≡ at + length shorter → i < length buffer → Filling text shorter first (set buffer i b) at
-filled_more {text} {rest} {first} {buffer} {at} shorter i b f e here room =
-    let n : suc i ≡ at + length rest = omega (arith, ap length e, length-append shorter (b ∷ [])) in
-    record {
-      back =
-          ap (λ (k : ℕ). shorter ++ drop k (set buffer i b)) (sym here) ∙ ap (λ l. shorter ++ l) (stored_at buffer i b room) ∙
-          sym (append_snoc shorter b (drop (suc i) buffer)) ∙ ap₂ (λ l (k : ℕ). l ++ drop k buffer) (sym e) n ∙ f.back;
-      front = take-set-le at buffer i b (omega arith) ∙ f.front;
-      size = length-set buffer i b ∙ f.size;
-    }
-
-pub filled : {text first buffer : List ℕ} {at : ℕ} → Filling text [] first buffer at → buffer ≡ written text first at
-filled {text} {first} {buffer} {at} f =
-    sym (take-append-drop at buffer) ∙
-    ap₂ ◌++◌ f.front (ap (λ (k : ℕ). drop k buffer) (sym (add-zero at)) ∙ f.back) ∙
-    sym (append_assoc (take at first) text (drop (at + length text) first))
+-- a text that stands between what was before it and after it
+pub stands : (text first buffer : List ℕ) (at : ℕ) → take at buffer ≡ take at first → drop at buffer ≡ text ++ drop (at + length text) first
+    → buffer ≡ written text first at
+stands text first buffer at front back =
+    sym (take-append-drop at buffer) ∙ ap₂ ◌++◌ front back ∙ sym (append_assoc (take at first) text (drop (at + length text) first))

@@ -1,4 +1,3 @@
 pub mod Lines
 pub mod RowLines
 pub mod Statements
-pub mod Making

@@ -3,6 +3,7 @@
 use Rattle.std.specs.Prelude.{ℕ, ◌*◌, ◌/◌, min, List, [], ◌∷◌, ◌++◌, map, length, take}
 use Rattle.packing.specs.Packing.{digits as clouds}
 use Rattle.list_text.specs.Lines.{ascii, digit, decimal, row_line}
+use Rattle.list_text.specs.declared.rows.Row.{Row}
 
 abbrev pub words_of_row : ℕ
 words_of_row = 5
@@ -14,6 +15,10 @@ bytes_of_line = 101
 -- the line of a row
 unfoldable pub words_line : (blocks cost place storage transfer cpu : ℕ) → List ℕ
 words_line blocks cost place storage transfer cpu = row_line cost (clouds blocks place) blocks storage transfer cpu
+
+-- the same of a row whose words were taken apart
+abbrev pub row_text : (blocks : ℕ) → Row → List ℕ
+row_text blocks row = words_line blocks row.cost row.place row.storage row.transfer row.cpu
 
 -- its front, before the amounts
 unfoldable pub front_text : (blocks cost place : ℕ) → List ℕ

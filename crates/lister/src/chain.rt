@@ -1,17 +1,18 @@
 // Draws in a row: each from the row that the one before it answered.
 ghost use Rattle.std.specs.Prelude.{◌≡◌};
-ghost use Rattle.lister.specs.Answers.{draw_answer, row_beside};
+ghost use Rattle.lister.specs.Answers.{draw_answer};
 ghost use Rattle.lister.specs.Calls.{draw_call};
-ghost use Rattle.lister.specs.DrawsListEveryRow.{at_start, past, moved_by};
 ghost use Rattle.lister.specs.Chain.{InChain};
+ghost use Rattle.lister.specs.DrawsListEveryRow.{at_start, past, moved_by};
 
-use crate::{Answer, Drawn, draw};
+use crate::draw;
+use refusals::Refusal;
 use survey::{Cursor, Row};
 
 // One draw of a chain: what it answered, and the cursor of the next.
-#[derive(Clone, Copy)]
+#[derive(Clone, Copy, Debug, PartialEq, Eq)]
 pub struct Link {
-    pub drawn: Drawn,
+    pub drawn: Result<Option<Row>, Refusal>,
     pub next: Cursor,
 }
 
@@ -37,22 +38,20 @@ fn past_row(row: Row) -> Cursor
     }
 }
 
-fn next_cursor(cursor: Cursor, drawn: Drawn) -> Cursor
+// After a row the chain continues past it; any other answer leaves the cursor unchanged.
+fn next_cursor(cursor: Cursor, drawn: Result<Option<Row>, Refusal>) -> Cursor
     ensures { result ≡ moved_by cursor (draw_answer drawn) }
 {
-    let answer = drawn.answer;
-    let row = drawn.row;
-    match answer {
-        Answer::Found => past_row(row),
-        Answer::Finished => cursor,
-        Answer::Refused(_) => cursor,
+    match drawn {
+        Ok(Some(row)) => past_row(row),
+        Ok(None) | Err(_) => cursor,
     }
 }
 
 // The next draw. From the cursor of the chain's draw k it answers what that draw answers, and gives the cursor of draw k + 1.
+#[tactic(auto, unfolding(crate::specs::Chain::answer_at, crate::specs::Chain::cursor_after))]
 pub fn advance(description: &[u8], cursor: Cursor) -> Link
     ensures drawn_value { draw_answer result.drawn ≡ draw_call description.now cursor }
-    ensures row_value { result.drawn.row ≡ row_beside (draw_call description.now cursor) }
     ensures next_value { result.next ≡ moved_by cursor (draw_call description.now cursor) }
     ensures in_chain { InChain description.now cursor result }
 {

@@ -1,11 +1,10 @@
 -- How the program makes what it prints: pages of the lines of the rows that List leaves, and a last line for its answer.
-use Rattle.std.specs.Prelude.{ℕ, ◌*◌, min, ◌≡◌, Option, None, IfSome, List, ◌++◌, length, take, drop}
+use Rattle.std.specs.Prelude.{ℕ, ◌*◌, min, ◌≡◌, Option, IfOk, OnOk, OnErr, List, ◌++◌, length, take, drop, Result as IoResult}
 use Rattle.std.specs.Io.KnownBytes.{Appends}
 use Rattle.standard_input.specs.Failures.{BreaksOff}
 use Rattle.list_text.specs.Lines.{options_line, refusal_line}
 use Rattle.list_text.specs.RowLines.{words_of_row, bytes_of_line, lines_of}
 use Rattle.whole_list.specs.WholeList.{most_words}
-use Rattle.listoptions.specs.declared.Sent.{Sent}
 use Rattle.sequences.specs.Results.{Result, ok, refused}
 
 -- words for 65,536 rows, as many as there can be candidates, and for their keys
@@ -15,9 +14,12 @@ held_words = most_words
 abbrev pub held_keys : ℕ
 held_keys = 131072
 
--- the rows of a page, and bytes for their lines
+-- the rows of a page, the words that they are, and bytes for their lines
 abbrev pub page_rows : ℕ
 page_rows = 1024
+
+abbrev pub page_words : ℕ
+page_words = page_rows * words_of_row
 
 abbrev pub held_bytes : ℕ
 held_bytes = page_rows * bytes_of_line
@@ -51,13 +53,13 @@ abbrev pub NextBytes : (text : List ℕ) (done : ℕ) (part : List ℕ) → Type
 NextBytes text done part = part ≡ take (length part) (drop done text)
 
 -- if the writer took all that it was given, it was given as many bytes as the text has
-abbrev pub Whole : Sent → List ℕ → Type 0
-Whole sent text = sent.failed ≡ None → sent.bytes ≡ length text
+abbrev pub Whole : {E : Type 0} → IoResult ℕ E → List ℕ → Type 0
+Whole sent text = IfOk sent (λ bytes. bytes ≡ length text)
 
 -- and if its bytes are known, they have become the ones before and then the text
-abbrev pub Taken : Sent → (old new : Option (List ℕ)) → (text : List ℕ) → Type 0
-Taken sent old new text = sent.failed ≡ None → Appends old new text
+abbrev pub Taken : {E : Type 0} → IoResult ℕ E → (old new : Option (List ℕ)) → (text : List ℕ) → Type 0
+Taken sent old new text = OnOk sent (Appends old new text)
 
 -- if it did not take all, it took the first ones
-abbrev pub BrokeOff : Sent → (old new : Option (List ℕ)) → (text : List ℕ) → Type 0
-BrokeOff sent old new text = IfSome sent.failed (λ _. BreaksOff old new text)
+abbrev pub BrokeOff : {E : Type 0} → IoResult ℕ E → (old new : Option (List ℕ)) → (text : List ℕ) → Type 0
+BrokeOff sent old new text = OnErr sent (BreaksOff old new text)

@@ -19,10 +19,8 @@ pub fn unpacked(place: u64, blocks: usize) -> [u8; 16]
     ensures { result ≡ digits blocks place ++ replicate (16 - blocks) 0 }
 {
     let mut clouds = [0u8; 16];
-    let mut b = 0;
-    while b < blocks {
+    for b in 0..blocks {
         clouds[b] = cloud_in(place, blocks, b) as u8;
-        b += 1;
     }
     clouds
 }
@@ -34,14 +32,12 @@ pub fn floor_place(bytes: [u8; 16], blocks: usize) -> u64
     ensures { FloorOf bytes blocks result }
 {
     let mut packed: u64 = 0;
-    let mut b = 0;
-    while b < blocks {
-        let cloud = bytes[b] as u64;
+    for b in 0..blocks {
+        let cloud = u64::from(bytes[b]);
         if 8 <= cloud {
             return (packed + 1) << (3 * (blocks - b));
         }
         packed = packed * 8 + cloud;
-        b += 1;
     }
     packed + 1
 }

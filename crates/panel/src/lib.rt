@@ -15,11 +15,7 @@ ghost use Rattle.statuses.specs.Statuses.{status, values_after};
 ghost use Rattle.statuses.specs.Values.{counts as count_values, transfer_count, byte_count, figures as figure_values};
 ghost use Rattle.statuses.specs.Values.{row_or_none, row_bytes, price, extent as extent_values, one};
 
-use security::answers::Verdict;
-use statuses::{
-    masked_status, put_count, put_counts, put_extent, put_figures, put_price, put_reason, put_row,
-    put_size, verdict_status,
-};
+use statuses::{put, put_row, status, verdict_status};
 use survey::Cursor;
 
 // Read: counts are of clouds, blocks and edges.
@@ -27,8 +23,7 @@ pub fn panel_read(description: &[u8], counts: &mut [u64; 3]) -> u64
     ensures value { result ≡ status (read_call description.now) }
     ensures counts_after { counts.new ≡ values_after count_values (read_call description.now) counts.old }
 {
-    let answer = judging::read(description);
-    put_counts(answer, counts)
+    put(judging::read(description), counts)
 }
 
 // Masks: bit k of byte b says that block b may stand on cloud k.
@@ -36,17 +31,14 @@ pub fn panel_masks(description: &[u8], masks: &mut [u8; 16]) -> u64
     ensures value { result ≡ status (masks_call description.now) }
     ensures masks_after { masks.new ≡ masks_after (masks_call description.now) masks.old }
 {
-    let answer = judging::masks(description, masks);
-    masked_status(answer)
+    status(judging::masks(description, masks))
 }
 
 // Judge: secure if the status is 0.
 pub fn panel_judge(description: &[u8], placement: &[u8; 16]) -> u64
     ensures { result ≡ status (judge_call description.now placement.now) }
 {
-    let bytes = *placement;
-    let verdict: Verdict = judging::judge(description, bytes);
-    verdict_status(verdict)
+    verdict_status(judging::judge(description, *placement))
 }
 
 // Transfers: their bytes at the front of the buffer, and how many there are.
@@ -62,9 +54,7 @@ pub fn panel_transfers(
     ensures count_after { count.new
         ≡ values_after transfer_count (transfers_call description.now placement.now (length buffer.old)) count.old }
 {
-    let bytes = *placement;
-    let answer = judging::transfers(description, bytes, buffer);
-    put_count(answer, count)
+    put(judging::transfers(description, *placement, buffer), count)
 }
 
 // Picture: its text at the front of the buffer, and how many bytes that has.
@@ -80,9 +70,7 @@ pub fn panel_picture(
     ensures count_after { count.new
         ≡ values_after byte_count (picture_call description.now placement.now (length buffer.old)) count.old }
 {
-    let bytes = *placement;
-    let answer = picture::picture(description, bytes, buffer);
-    put_size(answer, count)
+    put(picture::picture(description, *placement, buffer), count)
 }
 
 // Picture size: the same number, and nothing is written.
@@ -90,9 +78,7 @@ pub fn panel_picture_size(description: &[u8], placement: &[u8; 16], count: &mut 
     ensures value { result ≡ status (size_call description.now placement.now) }
     ensures count_after { count.new ≡ values_after one (size_call description.now placement.now) count.old }
 {
-    let bytes = *placement;
-    let answer = picture::picture_size(description, bytes);
-    put_size(answer, count)
+    put(picture::picture_size(description, *placement), count)
 }
 
 // Bill: the cost of a secure placement, then its storage, transfer and cpu.
@@ -100,9 +86,7 @@ pub fn panel_bill(description: &[u8], placement: &[u8; 16], amounts: &mut [u64; 
     ensures value { result ≡ status (bill_call description.now placement.now) }
     ensures amounts_after { amounts.new ≡ values_after price (bill_call description.now placement.now) amounts.old }
 {
-    let bytes = *placement;
-    let answer = billing::bill(description, bytes);
-    put_price(answer, amounts)
+    put(billing::bill(description, *placement), amounts)
 }
 
 // Standing: why a position may not have a cloud; 0 if it may.
@@ -110,8 +94,7 @@ pub fn panel_standing(description: &[u8], position: usize, cloud: u8, reason: &m
     ensures value { result ≡ status (standing_call description.now position cloud) }
     ensures reason_after { reason.new ≡ values_after one (standing_call description.now position cloud) reason.old }
 {
-    let answer = standing::standing(description, position, cloud);
-    put_reason(answer, reason)
+    put(standing::standing(description, position, cloud), reason)
 }
 
 // Census: the six figures.
@@ -119,8 +102,7 @@ pub fn panel_census(description: &[u8], figures: &mut [u64; 6]) -> u64
     ensures value { result ≡ status (census_call description.now) }
     ensures figures_after { figures.new ≡ values_after figure_values (census_call description.now) figures.old }
 {
-    let answer = lister::census(description);
-    put_figures(answer, figures)
+    put(lister::census(description), figures)
 }
 
 // Draw: whether there is a row past the cursor, and that row with its bill.
@@ -140,14 +122,12 @@ pub fn panel_draw(
         ≡ values_after row_bytes (draw_call description.now (record { start = start; cost = cost; placement = placement.now }))
         row.old }
 {
-    let bytes = *placement;
     let cursor = Cursor {
         start,
         cost,
-        placement: bytes,
+        placement: *placement,
     };
-    let drawn = lister::draw(description, cursor);
-    put_row(drawn, answer, row)
+    put_row(lister::draw(description, cursor), answer, row)
 }
 
 // List: the rows in lent words, five for each row; then how many rows there are, and how many blocks.
@@ -166,6 +146,5 @@ pub fn panel_list(
         ≡ values_after extent_values (list_call description.now (capacity (length rows.old) (length scratch.old)))
         extent.old }
 {
-    let listed = whole_list::list(description, rows, scratch);
-    put_extent(listed, extent)
+    put(whole_list::list(description, rows, scratch), extent)
 }

@@ -2,6 +2,7 @@ pub mod Bound
 pub mod Fitting
 pub mod Forecast
 pub mod Interview
+pub mod Nodes
 pub mod Paths
-pub mod Putting
 pub mod Refusals
+pub mod Rooms

@@ -1,13 +1,13 @@
--- The answer of both calls as an enum: the number and values for every case.
+-- The answer of both calls: the number and values for every case.
 use Rattle.std.specs.Prelude.{ℕ, List, length}
-use Rattle.picture.specs.declared.Pictured.{Pictured}
-use Rattle.picture.specs.declared.Pictured.TheVariants.{Bytes, Refused}
-use Rattle.sequences.specs.Results.{Result, ok, refused, and_then}
+use Rattle.std.specs.Prelude as std
+use Rattle.refusals.specs.declared.Refusal.{Refusal}
+use Rattle.refusals.specs.Refusals.{answered}
+use Rattle.sequences.specs.Results.{Result, ok, and_then}
 
 -- how many bytes the text has, or a refusal with its number and place
-abbrev pub picture_answer : Pictured → Result ℕ
-picture_answer (Bytes n) = ok n
-picture_answer (Refused r) = refused r.number r.place
+abbrev pub picture_answer : std.Result ℕ Refusal → Result ℕ
+picture_answer r = answered (λ n. n) r
 
 -- how many bytes were written
 abbrev pub size_of : Result (List ℕ) → Result ℕ

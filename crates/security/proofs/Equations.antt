@@ -19,18 +19,18 @@ use Rattle.security.specs.Placements.{service_cloud, datum_cloud, moves, exposes
 
 -- ---- the workflow and where blocks may stand
 
-pub breaks2-of : (b : Block) → breaks2 b ≡ breaks2_kind b.label b.kind
+pub breaks2_of : (b : Block) → breaks2 b ≡ breaks2_kind b.label b.kind
 unfolding breaks2
-breaks2-of b = refl
+breaks2_of b = refl
 
 module _ (d : Description) where
-  pub breaks3-of : (e : Edge) → breaks3 d e ≡ not (is_write e.way) && not (covers (clearance d e.service) (block_label d e.datum))
+  pub breaks3_of : (e : Edge) → breaks3 d e ≡ not (is_write e.way) && not (covers (clearance d e.service) (block_label d e.datum))
   unfolding breaks3
-  breaks3-of e = refl
+  breaks3_of e = refl
 
-  pub breaks4-of : (e : Edge) → breaks4 d e ≡ is_write e.way && not (covers (block_label d e.datum) (block_label d e.service))
+  pub breaks4_of : (e : Edge) → breaks4 d e ≡ is_write e.way && not (covers (block_label d e.datum) (block_label d e.service))
   unfolding breaks4
-  breaks4-of e = refl
+  breaks4_of e = refl
 
   pub count_of : count d ≡ product (map (λ b. length (choices_of d b)) positions)
   unfolding count
@@ -47,31 +47,31 @@ unfolding moves
 moves_of p e = refl
 
 module _ (d : Description) (p : List ℕ) where
-  pub exposes-of : (e : Edge) → exposes d p e ≡ moves p e && not (covers (cloud_label d (service_cloud p e)) (block_label d e.datum))
+  pub exposes_of : (e : Edge) → exposes d p e ≡ moves p e && not (covers (cloud_label d (service_cloud p e)) (block_label d e.datum))
   unfolding exposes
-  exposes-of e = refl
+  exposes_of e = refl
 
-  pub breaks16-of : (e : Edge) → breaks16 d p e ≡ not (is_write e.way) && exposes d p e
+  pub breaks16_of : (e : Edge) → breaks16 d p e ≡ not (is_write e.way) && exposes d p e
   unfolding breaks16
-  breaks16-of e = refl
+  breaks16_of e = refl
 
-  pub breaks17-of : (e : Edge) → breaks17 d p e ≡ is_write e.way && exposes d p e
+  pub breaks17_of : (e : Edge) → breaks17 d p e ≡ is_write e.way && exposes d p e
   unfolding breaks17
-  breaks17-of e = refl
+  breaks17_of e = refl
 
-  pub together-of : (a : Pair) → together d p a ≡ any (holds_both d p a) (below (length d.clouds))
+  pub together_of : (a : Pair) → together d p a ≡ any (holds_both d p a) (below (length d.clouds))
   unfolding together
-  together-of a = refl
+  together_of a = refl
 
-  pub bad-position-of : (b : ℕ) → bad_position d p b ≡ not (may_stand d b (get_or p b 0))
+  pub bad_position_of : (b : ℕ) → bad_position d p b ≡ not (may_stand d b (get_or p b 0))
   unfolding bad_position
-  bad-position-of b = refl
+  bad_position_of b = refl
 
-  pub judge-of : judge d p ≡
+  pub judge_of : judge d p ≡
       unless (first (bad_position d p) positions) 13
       (unless (first (breaks16 d p) d.edges) 14
       (unless (first (breaks17 d p) d.edges) 15
       (unless (first (together d p) d.pairs) 17
       (ok tt))))
   unfolding judge
-  judge-of = refl
+  judge_of = refl

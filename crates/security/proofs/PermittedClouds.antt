@@ -1,6 +1,8 @@
 -- The sixteen bytes of permitted clouds: they are what the rule says of each block and cloud, no other bytes are, and the choices by them
 -- are the candidates.
 use Prim.Native.Nat.{ℕ, ◌+◌, ◌-◌, ◌^◌, ◌≤◌, ◌<◌}
+use Rattle.std.specs.Prelude.{Some, None}
+use Rattle.description.specs.Declarations.{Pin}
 use native.Mathlib.Nat.{zero-add}
 use native.Mathlib.Decide.{dec_lt, ℕ_discrete}
 use native.Mathlib.Omega.{arith}
@@ -12,16 +14,14 @@ use lib.Count.{ones}
 use lib.Dec.{ltb, eqb, lit<}
 use lib.ListN.{length, get_or, length-map, get_or-eq_default}
 use lib.Seq.{ext_get_or}
-use borrow.Author.Tests.{ltb-true, lt-ltb, le-ltb, eq-eqb, ne_eqb}
-use Rattle.description.specs.declared.workflow.Pin.{Pin}
-use Rattle.description.specs.declared.workflow.Pin.TheVariants.{Free, To}
+use borrow.Author.Tests.{lt-ltb, le-ltb, eq-eqb, ne_eqb}
 use Rattle.description.specs.Declarations.{Description, block, names_block}
 use Rattle.description.specs.Invariants.{Limits}
 use Rattle.security.specs.Masks.{left_by, mask_of, masks_of, Permitted, block_masks, padded, Chooses}
 use Rattle.security.specs.Soundness.{block_label, pin_allows, cloud_covers, may_stand, choices_of, candidates}
 use Rattle.security.specs.Statements.{Stands}
 use Rattle.security.proofs.Candidates.{count-is-length, candidates-choices}
-use Rattle.security.proofs.Choices.{named-stands, no-cloud, not-declared, past-stands, last-choice}
+use Rattle.security.proofs.Choices.{named-stands, no-cloud, past-stands, last-choice}
 use Rattle.security.proofs.Standing.{block-stands}
 use Rattle.sequences.specs.Bits.{bit, bits, set_bits, bit_choices}
 use Rattle.sequences.specs.Lists.{from, below, product, sequences}
@@ -32,7 +32,7 @@ use Rattle.sequences.proofs.Counting.{from-split}
 use Rattle.sequences.proofs.Filling.{length-table, get_or-table, take-table, table-map}
 use Rattle.sequences.proofs.Indexing.{map_below, map-constant, sequences-padded}
 use Rattle.sequences.proofs.SetBits.{ones-set, set-of-bits, bit-choices-ascend, bit-choices-once}
-use Rattle.sequences.proofs.Tests.{cond_ind, both-pass}
+use Rattle.sequences.proofs.Tests.{cond_ind}
 
 module _ (d : Description) where
   -- ---- one byte
@@ -64,34 +64,38 @@ module _ (d : Description) where
       | no n ↦ pinned-alone k n
     ]
 
-    pinned-bits : length d.clouds ≤ 8 → cond (cloud_covers d label c) (2 ^ c) 0 ≡ bits pinned 0 8
-    pinned-bits few = go (cloud_covers d label c) refl
+    pinned-bits : c < 8 → cond (cloud_covers d label c) (2 ^ c) 0 ≡ bits pinned 0 8
+    pinned-bits there = go (cloud_covers d label c) refl
       where
         go : (b : Bool) → cloud_covers d label c ≡ b → cond b (2 ^ c) 0 ≡ bits pinned 0 8
         go true covers =
-            let there : c < 8 = omega (arith, ltb-true c (length d.clouds) ((both-pass _ _).0 covers).0) in
             let here = ap pinned (zero-add c) ∙ ap₂ (λ a b. a && b) covers (eq-eqb c c refl) in
             sym (bits-single pinned 0 8 c there (λ k n. pinned-alone k (λ e. n (omega arith))) ∙ ap (λ (b : Bool). cond b (2 ^ c) 0) here)
         go false none = sym (sym (bits-cut pinned 0 8 (omega arith) (λ k _. pinned-none none k)) ∙ bits_none pinned 0)
 
+    pinned-past : 8 ≤ c → bits pinned 0 8 ≡ 0
+    pinned-past high =
+        bits-same pinned (λ _. false) 0 8 (λ k _ l. pinned-alone k (λ e. omega arith)) ∙ sym (bits-cut (λ _. false) 0 8 (omega arith) (λ k _. refl)) ∙
+        bits_none (λ _. false) 0
+
   -- from the clouds that cover its label, by the pin
-  pub mask-left : length d.clouds ≤ 8 → (b : ℕ) → b < length d.blocks
-      → left_by (block d b).pin (bits (cloud_covers d (block_label d b)) 0 8) ≡ mask_of d b
-  mask-left few b h = go (block d b).pin refl
+  pub mask-left : (b : ℕ) → b < length d.blocks → left_by (block d b).pin (bits (cloud_covers d (block_label d b)) 0 8) ≡ mask_of d b
+  mask-left b h = go (block d b).pin refl
     where
       covers : ℕ → Bool
       covers = cloud_covers d (block_label d b)
 
-      tells : (c : ℕ) → bit (bits covers 0 8) c ≡ covers c
-      tells c = elim (dec_lt c 8) [
-        | yes l ↦ bit-bits covers 0 8 c l ∙ ap covers (zero-add c)
-        | no l ↦ bit_past 8 (bits covers 0 8) c (bits_small covers 0 8) (omega arith) ∙ sym (not-declared d (block_label d b) c (omega arith))
+      alone : (c : ℕ) → cond (bit (bits covers 0 8) c) (2 ^ c) 0 ≡ bits (pinned (block_label d b) c) 0 8
+      alone c = elim (dec_lt c 8) [
+        | yes l ↦ ap (λ (t : Bool). cond t (2 ^ c) 0) (bit-bits covers 0 8 c l ∙ ap covers (zero-add c)) ∙ pinned-bits (block_label d b) c l
+        | no l ↦
+            let high : 8 ≤ c = omega arith in
+            ap (λ (t : Bool). cond t (2 ^ c) 0) (bit_past 8 (bits covers 0 8) c (bits_small covers 0 8) high) ∙ sym (pinned-past (block_label d b) c high)
       ]
 
       go : (pin : Pin) → (block d b).pin ≡ pin → left_by pin (bits covers 0 8) ≡ mask_of d b
-      go Free e = bits-same covers (λ k. covers k && true) 0 8 (λ k _ _. sym (and-true (covers k))) ∙ mask-by-pin b Free h e
-      go (To c) e =
-          ap (λ (t : Bool). cond t (2 ^ c) 0) (tells c) ∙ pinned-bits (block_label d b) c few ∙ mask-by-pin b (To c) h e
+      go None e = bits-same covers (λ k. covers k && true) 0 8 (λ k _ _. sym (and-true (covers k))) ∙ mask-by-pin b None h e
+      go (Some c) e = alone c ∙ mask-by-pin b (Some c) h e
 
   pub mask_low : (b : ℕ) → mask_of d b < 256
   unfolding mask_of

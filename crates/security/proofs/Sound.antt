@@ -10,7 +10,7 @@ use Rattle.description.specs.Declarations.{Description}
 use Rattle.decoding.specs.Format.{decode}
 use Rattle.security.specs.Soundness.{breaks2, breaks3, breaks4, count, too_many, sound, read}
 use Rattle.sequences.specs.Lists.{first}
-use Rattle.sequences.specs.Results.{ok, refused}
+use Rattle.sequences.specs.Results.{ok, refused, and_then}
 use Rattle.sequences.proofs.Results.{ok-inj, unless-ok}
 use Rattle.sequences.proofs.Tests.{cond-none}
 
@@ -23,6 +23,11 @@ module _ (s : List ℕ) where
   pub read-decoded : {d : Description} → decode s ≡ ok d → read s ≡ sound d
   unfolding read
   read-decoded e = rw e refl
+
+-- Read decodes, and then tests the rules
+pub read_is : (s : List ℕ) → read s ≡ and_then (decode s) sound
+unfolding read
+read_is s = refl
 
 -- each rule is looked for only if the one before it is kept
 module _ (d : Description) where

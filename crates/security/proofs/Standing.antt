@@ -1,6 +1,8 @@
 -- Where a block may stand, from the rules: on a declared cloud whose label covers its own and that its pin allows. A position past the
 -- last block may have only 0.
 use Prim.Native.Nat.{ℕ, ◌≤◌, ◌<◌}
+use Rattle.std.specs.Prelude.{Some, None}
+use Rattle.description.specs.Declarations.{Pin}
 use native.Mathlib.Decide.{dec_lt}
 use native.Mathlib.Omega.{arith}
 use mathlib.Core.Path.{◌≡◌, refl, sym, ap, ◌∙◌}
@@ -9,17 +11,15 @@ use mathlib.Core.Bool.{true, ◌&&◌, false≢true}
 use mathlib.Core.List.{List}
 use lib.ListN.{length, get_or}
 use borrow.Author.Tests.{ltb-true, lt-ltb, le-ltb, eqb-true, eq-eqb}
-use Rattle.description.specs.declared.workflow.Pin.{Pin}
-use Rattle.description.specs.declared.workflow.Pin.TheVariants.{Free, To}
 use Rattle.description.specs.Declarations.{Description, block, is_pinned}
 use Rattle.labels.proofs.Covering.{covers-is}
 use Rattle.security.specs.Soundness.{block_label, pin_allows, cloud_covers, may_stand}
 use Rattle.security.specs.Statements.{Stands, Good}
 use Rattle.sequences.proofs.Tests.{both-pass}
 
-pub pin-kept : (pin : Pin) (k : ℕ) → (pin_allows pin k ≡ true) ↔ ((c : ℕ) → pin ≡ To c → c ≡ k)
-pin-kept Free k = (λ _ c e. absurd (false≢true (ap is_pinned e)), λ _. refl)
-pin-kept (To c) k = (λ t b e. let same : c ≡ b = cc in sym same ∙ eqb-true c k t, λ h. eq-eqb c k (h c refl))
+pub pin-kept : (pin : Pin) (k : ℕ) → (pin_allows pin k ≡ true) ↔ ((c : ℕ) → pin ≡ Some c → c ≡ k)
+pin-kept None k = (λ _ c e. absurd (false≢true (ap is_pinned e)), λ _. refl)
+pin-kept (Some c) k = (λ t b e. let same : c ≡ b = cc in sym same ∙ eqb-true c k t, λ h. eq-eqb c k (h c refl))
 
 module _ (d : Description) where
   stands-test : (b k : ℕ) → ((cloud_covers d (block_label d b) k && pin_allows (block d b).pin k) ≡ true) ↔ Stands d b k

@@ -1,7 +1,7 @@
 -- The clouds that hold a datum, as marks: a byte for each possible cloud.
 use Rattle.std.specs.Prelude.{ℕ, cond, List, map, ltb, set}
 use Rattle.description.specs.Declarations.{Description}
-use Rattle.description.specs.Layout.{most_clouds}
+use Rattle.description.specs.Most.{most_clouds}
 use Rattle.security.specs.Placements.{holds}
 use Rattle.sequences.specs.Lists.{below}
 

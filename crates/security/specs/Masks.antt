@@ -1,7 +1,7 @@
 -- The permitted clouds as bits: a byte for each of the sixteen positions, from which a walk takes the clouds of the candidates.
 use Rattle.std.specs.Prelude.{ℕ, ◌-◌, ◌^◌, ◌≤◌, ◌<◌, ◌≡◌, ◌↔◌, true, cond, List, ◌++◌, map, length, get_or, take, replicate}
-use Rattle.description.specs.declared.workflow.Pin.{Pin}
-use Rattle.description.specs.declared.workflow.Pin.TheVariants.{Free, To}
+use Rattle.std.specs.Prelude.{Some, None}
+use Rattle.description.specs.Declarations.{Pin}
 use Rattle.description.specs.Declarations.{Description, names_block}
 use Rattle.security.specs.Soundness.{may_stand, candidates, count}
 use Rattle.security.specs.Statements.{Stands}
@@ -12,8 +12,8 @@ use Rattle.sequences.specs.Lists.{before, product}
 
 -- those of some clouds, as bits, that a pin leaves
 abbrev pub left_by : Pin → ℕ → ℕ
-left_by Free clouds = clouds
-left_by (To c) clouds = cond (bit clouds c) (2 ^ c) 0
+left_by None clouds = clouds
+left_by (Some c) clouds = cond (bit clouds c) (2 ^ c) 0
 
 -- bit k is set if block b may stand on cloud k; past the last block there is 0, although a position there may have cloud 0
 unfoldable pub mask_of : Description → ℕ → ℕ

@@ -1,11 +1,11 @@
 -- The rules on the workflow itself, where each block may stand, and what Read gives: refusals 9 to 12 after those of decoding.
 use Rattle.std.specs.Prelude.{ℕ, Bool, true, false, not, ◌&&◌, cond, List, map, length, ltb, eqb}
+use Rattle.std.specs.Prelude.{Some, None}
+use Rattle.description.specs.Declarations.{Pin}
 use Rattle.std.proofs.Math.Option.{Option, none, some}
 use Rattle.description.specs.declared.workflow.Block.{Block}
 use Rattle.description.specs.declared.workflow.Kind.{Kind}
 use Rattle.description.specs.declared.workflow.Kind.TheVariants.{Datum, Service}
-use Rattle.description.specs.declared.workflow.Pin.{Pin}
-use Rattle.description.specs.declared.workflow.Pin.TheVariants.{Free, To}
 use Rattle.description.specs.declared.workflow.Edge.{Edge}
 use Rattle.description.specs.Declarations.{Description, cloud, block, is_write, names_cloud, names_block}
 use Rattle.decoding.specs.Format.{decode}
@@ -47,8 +47,8 @@ breaks4 d e = is_write e.way && not (covers (block_label d e.datum) (block_label
 
 -- a pin lets its block stand on that cloud only
 abbrev pub pin_allows : Pin → ℕ → Bool
-pin_allows Free k = true
-pin_allows (To c) k = eqb c k
+pin_allows None k = true
+pin_allows (Some c) k = eqb c k
 
 -- cloud k is declared, and its label covers this one (rule 7)
 abbrev pub cloud_covers : Description → (label k : ℕ) → Bool

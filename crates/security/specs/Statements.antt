@@ -1,6 +1,6 @@
 -- What a placement must be, from the scope's rules themselves: equations and the order of labels, without the tests that the definitions use.
 use Rattle.std.specs.Prelude.{ℕ, ◌≤◌, ◌<◌, ◌≡◌, ◌⊎◌, List, length, get_or}
-use Rattle.description.specs.declared.workflow.Pin.TheVariants.{To}
+use Rattle.std.specs.Prelude.{Some}
 use Rattle.description.specs.declared.workflow.Way.{Way}
 use Rattle.description.specs.declared.workflow.Way.TheVariants.{Reads, Writes}
 use Rattle.description.specs.declared.workflow.Edge.{Edge}
@@ -14,7 +14,7 @@ use Rattle.security.specs.Placements.{service_cloud, datum_cloud}
 pub record Stands (d : Description) (b k : ℕ) : Type 0 where
   pub declared : k < length d.clouds
   pub rule7 : Covers (cloud_label d k) (block_label d b)
-  pub pin : (c : ℕ) → (block d b).pin ≡ To c → c ≡ k
+  pub pin : (c : ℕ) → (block d b).pin ≡ Some c → c ≡ k
 
 -- Position b is good: its block stands where it may; past the last block there is 0.
 pub record Good (d : Description) (p : List ℕ) (b : ℕ) : Type 0 where

@@ -1,24 +1,24 @@
-// What Judge answers, and what the searches inside the crate find.
-use description::workflow::Refusal;
+// What Judge answers.
+ghost use Rattle.std.specs.Prelude.{◌≡◌};
+ghost use Rattle.refusals.specs.Refusals.{answered};
+ghost use Rattle.security.specs.Answers.{judge_answer};
 
-#[derive(Clone, Copy)]
+use refusals::Refusal;
+
+#[derive(Clone, Copy, Debug, PartialEq, Eq)]
 pub enum Verdict {
     Secure,
     Refused(Refusal),
 }
 
-// A position that a search found.
-#[derive(Clone, Copy)]
-pub enum Found {
-    At(usize),
-    Nothing,
-}
-
-// The rules on one edge, by their numbers in the method.
-#[derive(Clone, Copy)]
-pub enum Rule {
-    Rule3,
-    Rule4,
-    Rule16,
-    Rule17,
+impl Verdict {
+    // For a caller that goes on only if the placement is secure.
+    pub fn ok(self) -> Result<(), Refusal>
+        ensures { answered (λ u. u) result ≡ judge_answer self }
+    {
+        match self {
+            Verdict::Secure => Ok(()),
+            Verdict::Refused(refusal) => Err(refusal),
+        }
+    }
 }

@@ -3,7 +3,8 @@ use Prim.Native.Nat.{ℕ, ◌+◌, ◌*◌, ◌≤◌}
 use native.Mathlib.Omega.{arith}
 use mathlib.Core.Path.{◌≡◌, refl, sym, ap, ap₂, ◌∙◌}
 use mathlib.Core.List.{List, [], ◌∷◌, ◌++◌, map, append_assoc}
-use lib.ListN.{length, drop, length-append, length-drop}
+use borrow.Rule.Slice.PartMut.{put_mid}
+use lib.ListN.{length, take, drop, length-append, length-drop}
 use lib.Seq.{sets, sets-eq, take_at, drop_at, drop-drop}
 use Rattle.sequences.specs.Lists.{joined}
 
@@ -25,3 +26,9 @@ module _ {A : Type 0} where
       let size : length (front ++ drop k l) ≡ length l = length-append front (drop k l) ∙ omega (arith, length-drop k l) in
       let beyond = sym (drop-drop (length vs) k (front ++ drop k l)) ∙ ap (drop (length vs)) (drop_at front (drop k l) k e) ∙ drop-drop (length vs) k l in
       sets-eq vs (front ++ drop k l) k (omega arith) ∙ ap₂ (λ x y. (x ++ vs) ++ y) (take_at front (drop k l) k e) beyond
+
+-- numbers that take the place of as many
+pub stored : (l : List ℕ) (at n : ℕ) (ys zs : List ℕ) → ys ≡ zs → n ≡ length zs → at + n ≤ length l → put_mid at n l ys ≡ sets l at zs
+stored l at n ys zs e k h =
+    ap₂ (λ (v : List ℕ) (m : ℕ). take at l ++ (v ++ drop m (drop at l))) e k ∙ sym (append_assoc (take at l) zs (drop (length zs) (drop at l))) ∙
+    ap (λ r. take at l ++ zs ++ r) (drop-drop (length zs) at l) ∙ sym (sets-eq zs l at (omega (arith, h, k)))

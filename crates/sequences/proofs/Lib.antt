@@ -1,6 +1,7 @@
 pub mod Agreeing
 pub mod Ascending
 pub mod Bits
+pub mod Chains
 pub mod Choices
 pub mod Counting
 pub mod Distinct

@@ -13,6 +13,7 @@ use lib.ListN.{length, get_or}
 use lib.Dec.{leb, eqb}
 use borrow.Author.Tests.{eq-eqb, ne_eqb, leb-true, leb-false}
 use Rattle.sequences.specs.Lists.{any}
+use Rattle.std.specs.Prelude.{Some, None}
 
 -- what holds of each branch, if the test leads there, holds of the choice
 pub cond_ind : {A : Type 0} (P : A → Type 0) (test : Bool) (x y : A) → (test ≡ true → P x) → (test ≡ false → P y) → P (cond test x y)
@@ -90,3 +91,19 @@ module _ (n room w : ℕ) (e : w ≡ cond (leb n room) 0 n) where
       go : (b : Bool) → leb n room ≡ b → w ≡ cond b 0 n → (room < n) × (w ≡ n)
       go true t f = absurd (z f)
       go false t f = (leb-false n room t, f)
+
+-- the same with an option: nothing, or the n that there is no room for
+module _ (n room : ℕ) (w : Rattle.std.specs.Prelude.Option ℕ) (e : w ≡ cond (leb n room) None (Some n)) where
+  pub nothing-lacking : w ≡ None → n ≤ room
+  nothing-lacking z = go (leb n room) refl e
+    where
+      go : (b : Bool) → leb n room ≡ b → w ≡ cond b None (Some n) → n ≤ room
+      go true t f = leb-true n room t
+      go false t f = absurd (cc)
+
+  pub room-lacking : (m : ℕ) → w ≡ Some m → (room < n) × (m ≡ n)
+  room-lacking m z = go (leb n room) refl e
+    where
+      go : (b : Bool) → leb n room ≡ b → w ≡ cond b None (Some n) → (room < n) × (m ≡ n)
+      go true t f = absurd (cc)
+      go false t f = (leb-false n room t, cc)

@@ -3,5 +3,6 @@ pub mod Ascending
 pub mod Bits
 pub mod Draws
 pub mod Lists
+pub mod Options
 pub mod Orders
 pub mod Results

@@ -1,6 +1,7 @@
 -- Words on lists that the definitions of the other crates use: tests, first positions, sums, products, choices, two orders, sorting.
 use Rattle.std.specs.Prelude.{ℕ, zero, suc, ◌+◌, ◌*◌, Bool, true, false, ◌&&◌, ◌||◌, cond, ltb, eqb}
 use mathlib.Core.List.{List, [], ◌∷◌, ◌++◌, map, foldr}
+use Rattle.std.specs.List.{list_any}
 use Rattle.std.proofs.Math.Option.{Option, none, some}
 
 -- the numbers from k on, n of them
@@ -15,8 +16,7 @@ below n = from 0 n
 module _ {A : Type 0} where
   -- some element passes the test
   abbrev pub any : (A → Bool) → List A → Bool
-  any t [] = false
-  any t (x ∷ xs) = t x || any t xs
+  any t xs = list_any t xs
 
   -- the elements that pass the test, in order
   abbrev pub keep : (A → Bool) → List A → List A

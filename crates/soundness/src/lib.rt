@@ -3,99 +3,69 @@
 
 ghost use Rattle.std.specs.Prelude.{◌≡◌};
 ghost use Rattle.sequences.specs.Lists.{first};
-ghost use Rattle.description.specs.Meaning.{describes};
-ghost use Rattle.security.specs.Answers.{found_in};
+ghost use Rattle.sequences.specs.Options.{given};
 ghost use Rattle.security.specs.Soundness.{clearance_of, breaks2, breaks3, breaks4, cloud_covers};
 
 pub mod masks;
 
-use description::words::Words;
-use description::workflow::{
-    Block, Edge, Kind, block_at, block_count, cloud_at, cloud_count, is_write,
-};
+use description::workflow::{Block, Description, Edge, Kind};
 use labels::covers;
-use security::answers::Found;
-use sequences::wide;
 
-fn clearance_of(k: Kind) -> u8
-    ensures { result ≡ clearance_of k }
+fn clearance_of(kind: Kind) -> u8
+    ensures { result ≡ clearance_of kind }
 {
-    match k {
-        Kind::Datum {
-            size: _,
-            longevity: _,
-        } => 0,
-        Kind::Service {
-            clearance,
-            units: _,
-        } => clearance,
+    match kind {
+        Kind::Datum { .. } => 0,
+        Kind::Service { clearance, .. } => clearance,
     }
 }
 
-fn breaks_rule2(b: Block) -> bool
-    ensures { result ≡ breaks2 b }
+#[tactic(auto, using(security::proofs::Equations::breaks2_of))]
+fn breaks_rule2(block: &Block) -> bool
+    ensures { result ≡ breaks2 block.now }
 {
-    let location = b.label;
-    let k = b.kind;
-    match k {
-        Kind::Datum {
-            size: _,
-            longevity: _,
-        } => false,
-        Kind::Service {
-            clearance,
-            units: _,
-        } => !covers(clearance, location),
+    match block.kind {
+        Kind::Datum { .. } => false,
+        Kind::Service { clearance, .. } => !covers(clearance, block.label),
     }
 }
 
-pub fn breaks_rule3(w: &Words, e: Edge) -> bool
-    ensures { result ≡ breaks3 (describes w.now) e }
+#[tactic(auto, using(security::proofs::Equations::breaks3_of))]
+pub fn breaks_rule3(w: &Description, e: Edge) -> bool
+    ensures { result ≡ breaks3 w.now e }
 {
-    let way = e.way;
-    if is_write(way) {
+    if e.way.is_write() {
         return false;
     }
-    let service = block_at(w, wide(e.service));
-    let datum = block_at(w, wide(e.datum));
-    let k = service.kind;
-    !covers(clearance_of(k), datum.label)
+    let service = w.block_at(usize::from(e.service));
+    let datum = w.block_at(usize::from(e.datum));
+    !covers(clearance_of(service.kind), datum.label)
 }
 
-pub fn breaks_rule4(w: &Words, e: Edge) -> bool
-    ensures { result ≡ breaks4 (describes w.now) e }
+#[tactic(auto, using(security::proofs::Equations::breaks4_of))]
+pub fn breaks_rule4(w: &Description, e: Edge) -> bool
+    ensures { result ≡ breaks4 w.now e }
 {
-    let way = e.way;
-    if !is_write(way) {
+    if !e.way.is_write() {
         return false;
     }
-    let service = block_at(w, wide(e.service));
-    let datum = block_at(w, wide(e.datum));
+    let service = w.block_at(usize::from(e.service));
+    let datum = w.block_at(usize::from(e.datum));
     !covers(datum.label, service.label)
 }
 
 // The lowest block that breaks rule 2.
-pub fn first_breaking_rule2(w: &Words) -> Found
-    ensures { found_in result ≡ first breaks2 (describes w.now).blocks }
+pub fn first_breaking_rule2(w: &Description) -> Option<usize>
+    ensures { given result ≡ first breaks2 w.now.blocks }
 {
-    let n = block_count(w);
-    let mut i = 0;
-    while i < n {
-        if breaks_rule2(block_at(w, i)) {
-            return Found::At(i);
-        }
-        i += 1;
-    }
-    Found::Nothing
+    w.blocks().iter().position(|block| breaks_rule2(block))
 }
 
 // Cloud k is declared, and its label covers this one: rule 7.
-pub fn cloud_covers(w: &Words, label: u8, k: usize) -> bool
-    ensures { result ≡ cloud_covers (describes w.now) label k }
+pub fn cloud_covers(w: &Description, label: u8, k: usize) -> bool
+    ensures { result ≡ cloud_covers w.now label k }
 {
-    if cloud_count(w) <= k {
-        return false;
-    }
-    let cloud = cloud_at(w, k);
-    covers(cloud.label, label)
+    w.clouds()
+        .get(k)
+        .is_some_and(|cloud| covers(cloud.label, label))
 }

@@ -1,8 +1,8 @@
 -- What is known of a writer after a failure of a stream.
 use Rattle.std.specs.Prelude.{ℕ, ◌<◌, List, Option, length, take, ⊤}
 use Rattle.std.specs.Io.KnownBytes.{Appends, Keeps}
-use Rattle.standard_input.specs.declared.Failure.{Failure}
-use Rattle.standard_input.specs.declared.Failure.TheVariants.{Input, Output}
+use Rattle.standard_input.specs.declared.failure.Failure.{Failure}
+use Rattle.standard_input.specs.declared.failure.Failure.TheVariants.{Input, Output}
 
 -- it was the output that failed
 abbrev pub OfOutput : Failure → Type 0

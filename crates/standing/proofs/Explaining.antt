@@ -1,5 +1,7 @@
 -- Each number of Standing means what the rules say, and 13 is given at the lowest position that has one.
 use Prim.Native.Nat.{ℕ, zero, suc, ◌≤◌, ◌<◌}
+use Rattle.std.specs.Prelude.{Some, None}
+use Rattle.description.specs.Declarations.{Pin}
 use native.Mathlib.Decide.{dec_lt, ℕ_discrete}
 use native.Mathlib.Omega.{arith}
 use mathlib.Core.Path.{◌≡◌, refl, sym, ap, subst, ◌∙◌}
@@ -9,8 +11,6 @@ use mathlib.Core.List.{List}
 use lib.Dec.{eqb}
 use lib.ListN.{length, get_or}
 use borrow.Author.Tests.{lt-ltb, le-ltb, eq-eqb, ne_eqb}
-use Rattle.description.specs.declared.workflow.Pin.{Pin}
-use Rattle.description.specs.declared.workflow.Pin.TheVariants.{Free, To}
 use Rattle.description.specs.Declarations.{Description, block, is_pinned}
 use Rattle.labels.specs.Labels.{Covers, covers}
 use Rattle.labels.proofs.Covering.{covers-is, covers-not}
@@ -28,9 +28,9 @@ use Rattle.standing.specs.Reasons.{reason_of_block, reason, standing_call}
 use Rattle.standing.specs.Statements.{Declared, Explained, Explains13}
 
 -- a pin does not allow a cloud exactly if it is to another one
-pin-elsewhere : (pin : Pin) (k : ℕ) → (pin_allows pin k ≡ false) ↔ ((c : ℕ) × (pin ≡ To c) × (c ≡ k → ⊥))
-pin-elsewhere Free k = (λ f. absurd (true≢false f), λ (c, e, _). absurd (true≢false (sym (ap is_pinned e))))
-pin-elsewhere (To c) k = (
+pin-elsewhere : (pin : Pin) (k : ℕ) → (pin_allows pin k ≡ false) ↔ ((c : ℕ) × (pin ≡ Some c) × (c ≡ k → ⊥))
+pin-elsewhere None k = (λ f. absurd (true≢false f), λ (c, e, _). absurd (true≢false (sym (ap is_pinned e))))
+pin-elsewhere (Some c) k = (
   λ f. (c, refl, λ e. true≢false (sym (eq-eqb c k e) ∙ f)),
   λ (b, e, other). let same : c ≡ b = cc in ne_eqb c k (λ h. other (sym same ∙ h)),
 )

@@ -1,6 +1,6 @@
 -- What each number means, from the rules themselves, and how Standing explains number 13.
 use Rattle.std.specs.Prelude.{ℕ, zero, suc, ◌≤◌, ◌<◌, ◌≡◌, ◌↔◌, List, length, get_or}
-use Rattle.description.specs.declared.workflow.Pin.TheVariants.{To}
+use Rattle.std.specs.Prelude.{Some}
 use Rattle.description.specs.Declarations.{Description, block}
 use Rattle.labels.specs.Labels.{Covers}
 use Rattle.security.specs.Soundness.{cloud_label, block_label}
@@ -20,7 +20,7 @@ Explained d b k zero = (b < length d.blocks → Stands d b k) × (length d.block
 Explained d b k (suc zero) = (b < length d.blocks) × (length d.clouds ≤ k)
 Explained d b k (suc (suc zero)) = Declared d b k × (Covers (cloud_label d k) (block_label d b) → ⊥)
 Explained d b k (suc (suc (suc zero))) =
-    Declared d b k × Covers (cloud_label d k) (block_label d b) × ((c : ℕ) × ((block d b).pin ≡ To c) × (c ≡ k → ⊥))
+    Declared d b k × Covers (cloud_label d k) (block_label d b) × ((c : ℕ) × ((block d b).pin ≡ Some c) × (c ≡ k → ⊥))
 Explained d b k (suc (suc (suc (suc zero)))) = (length d.blocks ≤ b) × (k ≡ 0 → ⊥)
 Explained d b k (suc (suc (suc (suc (suc n))))) = ⊥
 

@@ -1,13 +1,11 @@
 -- The values that answers put into lent arrays, in their order.
-use Rattle.std.specs.Prelude.{ℕ, List, [], ◌∷◌, length}
+use Rattle.std.specs.Prelude.{ℕ, List, [], ◌∷◌, length, replicate}
 use Rattle.std.proofs.Math.Option.{Option, none, some}
 use Rattle.judging.specs.Calls.{Counts}
 use Rattle.costs.specs.declared.answers.Bill.{Bill}
 use Rattle.transfer_list.specs.Transfers.{Transfer}
 use Rattle.survey.specs.declared.Row.{Row}
-use Rattle.lister.specs.Answers.{row_beside}
 use Rattle.survey.specs.Rows.{Census}
-use Rattle.sequences.specs.Results.{ok}
 
 -- Read: clouds, blocks, edges
 abbrev pub counts : Counts → List ℕ
@@ -40,7 +38,8 @@ row_or_none none = 0 ∷ 0 ∷ 0 ∷ 0 ∷ 0 ∷ []
 
 -- Draw: the sixteen bytes of the row, or zeros
 abbrev pub row_bytes : Option Row → List ℕ
-row_bytes drawn = (row_beside (ok drawn)).placement
+row_bytes (some row) = row.placement
+row_bytes none = replicate 16 0
 
 -- List: rows, blocks
 abbrev pub extent : ℕ × ℕ → List ℕ

@@ -3,27 +3,19 @@
 #![tactic(auto)]
 
 ghost use Rattle.std.specs.Prelude.{◌≡◌, min};
-ghost use Rattle.judging.specs.Answers.{read_answer, masked_answer};
+ghost use Rattle.lister.specs.Answers.{draw_answer};
+ghost use Rattle.refusals.specs.Refusals.{answered, fault_number};
+ghost use Rattle.sequences.specs.Options.{given};
 ghost use Rattle.security.specs.Answers.{judge_answer};
-ghost use Rattle.transfer_list.specs.Answers.{transfers_answer};
-ghost use Rattle.picture.specs.Answers.{picture_answer};
-ghost use Rattle.billing.specs.Answers.{bill_answer};
-ghost use Rattle.standing.specs.Answers.{standing_answer};
-ghost use Rattle.lister.specs.Answers.{census_answer, draw_answer};
-ghost use Rattle.whole_list.specs.WholeList.{list_answer};
 ghost use Rattle.statuses.specs.Statuses.{highest_place, refusal_status, status, values_after};
-ghost use Rattle.statuses.specs.Values.{counts as count_values, figures as figure_values, row_or_none, row_bytes, price, extent as extent_values, one};
+ghost use Rattle.statuses.specs.Values.{row_or_none, row_bytes};
 
-use billing::Billed;
-use costs::answers::Bill;
-use description::workflow::Refusal;
-use judging::answers::{Acceptance, Masked};
-use lister::{Answer, Counted, Drawn};
-use picture::Pictured;
+pub mod values;
+
+use refusals::Refusal;
 use security::answers::Verdict;
-use standing::{Explanation, reason_number};
-use transfer_list::Transferred;
-use whole_list::Listed;
+use survey::Row;
+use values::Values;
 
 // A place has 56 bits of a status, and this is the highest of them: 2^56 - 1.
 const HIGHEST_PLACE: usize = 72057594037927935;
@@ -32,159 +24,70 @@ const HIGHEST_PLACE: usize = 72057594037927935;
 fn kept_place(place: usize) -> u64
     ensures { result ≡ min place highest_place }
 {
-    if place < HIGHEST_PLACE {
-        place as u64
-    } else {
-        HIGHEST_PLACE as u64
-    }
+    place.min(HIGHEST_PLACE) as u64
 }
 
 fn refusal_status(refusal: Refusal) -> u64
-    ensures { result ≡ refusal_status refusal.number refusal.place }
+    ensures { result ≡ refusal_status (fault_number refusal.fault) refusal.place }
 {
-    refusal.number as u64 + 256 * kept_place(refusal.place)
+    u64::from(refusal.fault.number()) + 256 * kept_place(refusal.place)
 }
 
-pub fn put_counts(answer: Acceptance, counts: &mut [u64; 3]) -> u64
-    ensures value { result ≡ status (read_answer answer) }
-    ensures counts_after { counts.new ≡ values_after count_values (read_answer answer) counts.old }
+// The status of an answer without values.
+pub fn status(answer: Result<(), Refusal>) -> u64
+    ensures { result ≡ status (answered (λ u. u) answer) }
 {
     match answer {
-        Acceptance::Accepted {
-            clouds,
-            blocks,
-            edges,
-        } => {
-            *counts = [clouds as u64, blocks as u64, edges as u64];
-            0
-        }
-        Acceptance::Refused(r) => refusal_status(r),
-    }
-}
-
-pub fn masked_status(answer: Masked) -> u64
-    ensures { result ≡ status (masked_answer answer) }
-{
-    match answer {
-        Masked::Written => 0,
-        Masked::Refused(r) => refusal_status(r),
+        Ok(()) => 0,
+        Err(refusal) => refusal_status(refusal),
     }
 }
 
 pub fn verdict_status(verdict: Verdict) -> u64
     ensures { result ≡ status (judge_answer verdict) }
 {
-    match verdict {
-        Verdict::Secure => 0,
-        Verdict::Refused(r) => refusal_status(r),
-    }
+    status(verdict.ok())
 }
 
-pub fn put_count(answer: Transferred, count: &mut [u64; 1]) -> u64
-    ensures value { result ≡ status (transfers_answer answer) }
-    ensures count_after { count.new ≡ values_after one (transfers_answer answer) count.old }
+// The status of an answer. Its values go to the lent array.
+pub fn put<T: Values<N> + Drop, const N: usize>(
+    answer: Result<T, Refusal>,
+    lent: &mut [u64; N],
+) -> u64
+    ensures value { result ≡ status (answered T.values answer) }
+    ensures lent_after { lent.new ≡ values_after (λ vs. vs) (answered T.values answer) lent.old }
 {
     match answer {
-        Transferred::Count(n) => {
-            *count = [n as u64];
+        Ok(value) => {
+            *lent = value.values();
             0
         }
-        Transferred::Refused(r) => refusal_status(r),
+        Err(refusal) => refusal_status(refusal),
     }
 }
 
-pub fn put_size(answer: Pictured, count: &mut [u64; 1]) -> u64
-    ensures value { result ≡ status (picture_answer answer) }
-    ensures count_after { count.new ≡ values_after one (picture_answer answer) count.old }
+// The sixteen bytes of a row, or zeros if there is none.
+fn bytes_of(found: Option<Row>) -> [u8; 16]
+    ensures { result ≡ row_bytes (given found) }
 {
-    match answer {
-        Pictured::Bytes(bytes) => {
-            *count = [bytes as u64];
-            0
-        }
-        Pictured::Refused(r) => refusal_status(r),
+    match found {
+        Some(row) => row.placement,
+        None => [0u8; 16],
     }
 }
 
-pub fn put_price(answer: Billed, amounts: &mut [u64; 4]) -> u64
-    ensures value { result ≡ status (bill_answer answer) }
-    ensures amounts_after { amounts.new ≡ values_after price (bill_answer answer) amounts.old }
-{
-    match answer {
-        Billed::Priced { cost, bill } => {
-            *amounts = [cost, bill.storage, bill.transfer, bill.cpu];
-            0
-        }
-        Billed::Refused(r) => refusal_status(r),
-    }
-}
-
-pub fn put_reason(answer: Explanation, reason: &mut [u64; 1]) -> u64
-    ensures value { result ≡ status (standing_answer answer) }
-    ensures reason_after { reason.new ≡ values_after one (standing_answer answer) reason.old }
-{
-    match answer {
-        Explanation::Reason(why) => {
-            *reason = [reason_number(why) as u64];
-            0
-        }
-        Explanation::Refused(r) => refusal_status(r),
-    }
-}
-
-pub fn put_figures(answer: Counted, figures: &mut [u64; 6]) -> u64
-    ensures value { result ≡ status (census_answer answer) }
-    ensures figures_after { figures.new ≡ values_after figure_values (census_answer answer) figures.old }
-{
-    match answer {
-        Counted::Counts(c) => {
-            *figures = [
-                c.candidates,
-                c.breaking16,
-                c.breaking17only,
-                c.apartonly,
-                c.secure,
-                c.options,
-            ];
-            0
-        }
-        Counted::Refused(r) => refusal_status(r),
-    }
-}
-
-pub fn put_row(drawn: Drawn, answer: &mut [u64; 5], row: &mut [u8; 16]) -> u64
+// The same for a draw, whose row has bytes too.
+pub fn put_row(
+    drawn: Result<Option<Row>, Refusal>,
+    answer: &mut [u64; 5],
+    row: &mut [u8; 16],
+) -> u64
     ensures value { result ≡ status (draw_answer drawn) }
     ensures answer_after { answer.new ≡ values_after row_or_none (draw_answer drawn) answer.old }
     ensures row_after { row.new ≡ values_after row_bytes (draw_answer drawn) row.old }
 {
-    let told = drawn.answer;
-    let found = drawn.row;
-    let placement = found.placement;
-    let bill: Bill = found.bill;
-    match told {
-        Answer::Found => {
-            *answer = [1, found.cost, bill.storage, bill.transfer, bill.cpu];
-            *row = placement;
-            0
-        }
-        Answer::Finished => {
-            *answer = [0, 0, 0, 0, 0];
-            *row = [0u8; 16];
-            0
-        }
-        Answer::Refused(r) => refusal_status(r),
+    if let Ok(found) = drawn {
+        *row = bytes_of(found);
     }
-}
-
-pub fn put_extent(listed: Listed, extent: &mut [u64; 2]) -> u64
-    ensures value { result ≡ status (list_answer listed) }
-    ensures extent_after { extent.new ≡ values_after extent_values (list_answer listed) extent.old }
-{
-    match listed {
-        Listed::Rows(e) => {
-            *extent = [e.rows as u64, e.blocks as u64];
-            0
-        }
-        Listed::Refused(r) => refusal_status(r),
-    }
+    put(drawn, answer)
 }

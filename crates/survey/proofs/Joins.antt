@@ -7,7 +7,10 @@ use mathlib.Core.Bool.{true, not, ◌&&◌, ◌||◌}
 use mathlib.Core.List.Memᴰ
 use mathlib.Core.List.{List, [], ◌∷◌, ◌++◌, foldl, Memᴰ}
 use mathlib.Core.Option.{Option, none, some}
+use Rattle.std.specs.Prelude.{None, Some}
+use Rattle.std.specs.Prelude.{Option as Maybe}
 use lib.Dec.{ltb, eqb}
+use borrow.Author.Tests.{ne_eqb}
 use lib.ListN.{length, get_or, replicate, length-map}
 use Rattle.sequences.specs.Lists.{before}
 use Rattle.sequences.proofs.Members.{keep-members}
@@ -26,12 +29,16 @@ use Rattle.costs.proofs.Weights.{weight-class, weight-cost}
 use Rattle.packing.specs.Packing.{pack, digits}
 use Rattle.packing.proofs.Digits.{pack-before, digits-pack}
 use Rattle.weights.specs.Weights.{cost_limit, class_of}
-use Rattle.visit.specs.Tables.{weight, tests_of}
-use Rattle.visit.specs.Visits.{rows_at, best_cost_at, best_place_at, Fresh}
+use Rattle.visit.specs.declared.Met.{Met}
+use Rattle.visit.specs.declared.counts.Count.{Count}
+use Rattle.visit.specs.declared.draws.Draw.{Draw}
+use Rattle.visit.specs.Tables.{Tests, weight, tests_of}
+use Rattle.visit.specs.Visits.{counted, to_count, drawn, to_draw, found}
 use Rattle.visit.specs.Visits.{earlier as earlier_walk}
 use Rattle.visit.proofs.Drawing.{Best}
-use Rattle.walk.specs.Walking.{see_at, keep_at}
-use Rattle.walk.proofs.Whole.{seen-in-turn, kept-in-turn}
+use Rattle.visit.proofs.Drawing.{met as weighed}
+use Rattle.walk.specs.Walking.{see_at}
+use Rattle.walk.proofs.Whole.{seen-in-turn}
 use Rattle.security.specs.Masks.{padded}
 use Rattle.table_entries.specs.Building.{tables_of}
 use Rattle.table_entries.proofs.Built.{weights, placements-are, placement-there}
@@ -42,7 +49,7 @@ use Rattle.survey.specs.declared.Cursor.{Cursor}
 use Rattle.survey.specs.Answers.{figures_of}
 use Rattle.survey.specs.Joining.{Joined, met}
 use Rattle.survey.specs.Rows.{census, secure_placements, earlier, row_of, later, draw}
-use Rattle.survey.specs.Surveys.{to_count, to_draw, seen_of, kept_of, Asks}
+use Rattle.survey.specs.Surveys.{seen_of, Asks}
 use Rattle.survey.proofs.Counting.{census-candidates}
 use Rattle.survey.proofs.Standing.{stands-by-exchanges}
 use Rattle.survey.proofs.Walked.{sees-16, sees-17, sees-apart, sees-secure, sees-options, draws}
@@ -94,14 +101,9 @@ none-met d w e = go (met d (tables_of d)) (sym (length-map (met d (tables_of d))
     go [] z = refl
     go (q ∷ l) z = absurd (omega arith)
 
-module _ (d : Description) (w : WellFormed d) (e : count d ≡ 0) (s : List ℕ) where
-  pub none_seen : seen_of d s ≡ s
-  none_seen = seen-in-turn (tables_of d) (length d.blocks) s ∙ ap (foldl (see_at (tables_of d) (length d.blocks)) s) (none-met d w e)
-
-  pub none-kept-words : (words : List ℕ) → kept_of d s words ≡ words
-  none-kept-words words =
-      kept-in-turn (tables_of d) (length d.blocks) s words ∙
-      ap (λ l. (foldl (keep_at (tables_of d) (length d.blocks)) (s, words) l).1) (none-met d w e)
+pub none_seen : {V : Type 0} (see : (weight place : ℕ) → Tests → V → V) (d : Description) → WellFormed d → count d ≡ 0 → (v : V) → seen_of see d v ≡ v
+none_seen see d w e v =
+    seen-in-turn see (tables_of d) (length d.blocks) v ∙ ap (foldl (see_at see (tables_of d) (length d.blocks)) v) (none-met d w e)
 
 -- the walk's numbers order placements as their bytes do
 pub ordered : (d : Description) → Joined d (tables_of d) → (q u : List ℕ) → Memᴰ q (met d (tables_of d)) → Memᴰ u (met d (tables_of d))
@@ -110,42 +112,38 @@ ordered d j q u m k =
     before-behind q u (replicate (16 - length d.blocks) 0) (j.sized q m ∙ sym (j.sized u k)) ∙
     sym (pack-before q u (j.sized q m ∙ sym (j.sized u k)) (j.low q m) (j.low u k))
 
--- words that begin with zeros have nothing counted in them yet
-pub starts : {s : List ℕ} {a b c d e : ℕ} → s ≡ 0 ∷ 0 ∷ 0 ∷ 0 ∷ 0 ∷ a ∷ b ∷ c ∷ d ∷ e ∷ [] → Fresh s
-starts e = subst Fresh (sym e) (refl, refl)
-
 -- ---- the census
 
 -- what was counted is the census
-pub record Sees (d : Description) (s : List ℕ) : Type 0 where
-  pub sixteen : get_or s 1 0 ≡ (census d).breaking16
-  pub seventeen : get_or s 2 0 ≡ (census d).breaking17only
-  pub apart : get_or s 3 0 ≡ (census d).apartonly
-  pub secure : get_or s 0 0 ≡ (census d).secure
-  pub options : get_or s rows_at 0 ≡ (census d).options
+pub record Sees (d : Description) (c : Count) : Type 0 where
+  pub sixteen : c.breaks_first ≡ (census d).breaking16
+  pub seventeen : c.breaks_second ≡ (census d).breaking17only
+  pub apart : c.clashes ≡ (census d).apartonly
+  pub secure : c.secure ≡ (census d).secure
+  pub options : c.rows ≡ (census d).options
 
-pub counted-by : (d : Description) → Admitted d → (s : List ℕ) → s ≡ seen_of d to_count → Sees d s
-counted-by d a s e =
+pub counted-by : (d : Description) → Admitted d → Sees d (seen_of counted d to_count)
+counted-by d a =
     let j = joined d a in
     let t = tables_of d in
     record {
-      sixteen = ap (λ x. get_or x 1 0) e ∙ sees-16 d t j;
-      seventeen = ap (λ x. get_or x 2 0) e ∙ sees-17 d t j;
-      apart = ap (λ x. get_or x 3 0) e ∙ sees-apart d t j;
-      secure = ap (λ x. get_or x 0 0) e ∙ sees-secure d t j;
-      options = ap (λ x. get_or x rows_at 0) e ∙ sees-options d t j;
+      sixteen = sees-16 d t j;
+      seventeen = sees-17 d t j;
+      apart = sees-apart d t j;
+      secure = sees-secure d t j;
+      options = sees-options d t j;
     }
 
-pub census-is : (d : Description) (candidates : ℕ) (s : List ℕ) → candidates ≡ count d → Sees d s
+pub census-is : (d : Description) (candidates : ℕ) (c : Count) → candidates ≡ count d → Sees d c
     → figures_of (record {
       candidates = candidates;
-      breaking16 = get_or s 1 0;
-      breaking17only = get_or s 2 0;
-      apartonly = get_or s 3 0;
-      secure = get_or s 0 0;
-      options = get_or s rows_at 0;
+      breaking16 = c.breaks_first;
+      breaking17only = c.breaks_second;
+      apartonly = c.clashes;
+      secure = c.secure;
+      options = c.rows;
     }) ≡ census d
-census-is d candidates s e h =
+census-is d candidates c e h =
     let all : candidates ≡ (census d).candidates = e ∙ sym (census-candidates d) in
     λ i. record {
       candidates = all i;
@@ -159,20 +157,22 @@ census-is d candidates s e h =
 -- ---- the draw
 
 -- what was kept: the row of a placement that was met, packed, or none
-abbrev pub KeptRow : Description → Option Row → List ℕ → Type 0
-KeptRow d none s = get_or s best_cost_at 0 ≡ cost_limit
-KeptRow d (some row) s =
-    (q : List ℕ) × (length q ≡ length d.blocks) × ((i : ℕ) → get_or q i 0 < 8) × (row_of d (padded d q) ≡ row) × (get_or s best_cost_at 0 ≡ row.cost) ×
-    (row.cost < cost_limit) × (get_or s best_place_at 0 ≡ pack q)
+abbrev pub KeptRow : Description → Option Row → Maybe Met → Type 0
+KeptRow d none best = best ≡ None
+KeptRow d (some row) best =
+    (q : List ℕ) × (length q ≡ length d.blocks) × ((i : ℕ) → get_or q i 0 < 8) × (row_of d (padded d q) ≡ row) × (best ≡ Some (weighed row.cost (pack q)))
 
-pub kept_by : (d : Description) → Admitted d → (c : Cursor) (asked s : List ℕ) → Asks c (length d.blocks) asked → s ≡ seen_of d asked
-    → KeptRow d (draw d c) s
-kept_by d a c asked s h e =
-    subst (KeptRow d (draw d c)) (sym (e ∙ ap (seen_of d) h.words))
+pub kept_by : (d : Description) → Admitted d → (c : Cursor) (asked : Draw) → Asks c (length d.blocks) asked
+    → KeptRow d (draw d c) (found (seen_of drawn d asked))
+kept_by d a c asked h =
+    subst (λ x. KeptRow d (draw d c) (found (seen_of drawn d x))) (sym h.asked)
     (go (draw d c) (draws d (tables_of d) j c h.floor h.place (ordered d j) floor).best)
   where
     j : Joined d (tables_of d)
     j = joined d a
+
+    told : Met → Maybe Met
+    told b = found (record { floor = weighed h.floor h.place; best = b })
 
     floor : (q : List ℕ) → Memᴰ q (met d (tables_of d))
         → later c (row_of d (padded d q)) ≡ not (earlier_walk (cost d (padded d q)) (pack q) h.floor h.place)
@@ -180,38 +180,36 @@ kept_by d a c asked s h e =
 
     go : (o : Option Row) → Best earlier (later c) (λ q. row_of d (padded d q)) (λ x. x.cost) (λ q. weight (tables_of d) (length d.blocks) q) pack
         (tests_of (tables_of d) (length d.blocks)) (λ q. unexposed d (padded d q)) h.floor h.place (met d (tables_of d))
-        (seen_of d (to_draw h.floor h.place)) o
-        → KeptRow d o (seen_of d (to_draw h.floor h.place))
-    go none (limit, place) = limit
-    go (some row) (q, m, safe, same, price, packed) = (
-      q,
-      j.sized q m,
-      j.low q m,
-      same,
-      price ∙ ap (λ x. x.cost) same,
-      subst (λ x. x.cost < cost_limit) same (bounded-cost d (padded d q) (admitted-bounded a)),
-      packed,
-    )
+        (seen_of drawn d (to_draw h.floor h.place)).best o
+        → KeptRow d o (found (seen_of drawn d (to_draw h.floor h.place)))
+    go none e = ap told e
+    go (some row) (q, m, safe, same, e) =
+        let low = bounded-cost d (padded d q) (admitted-bounded a) in
+        let is : told (weighed (cost d (padded d q)) (pack q)) ≡ Some (weighed (cost d (padded d q)) (pack q)) =
+        rw (ne_eqb (cost d (padded d q)) cost_limit (λ z. omega arith)) in
+        (q, j.sized q m, j.low q m, same, ap told e ∙ is ∙ ap (λ x. Some (weighed x.cost (pack q))) same)
 
-module _ (d : Description) (o : Option Row) (s : List ℕ) where
-  pub none_kept : KeptRow d o s → get_or s best_cost_at 0 ≡ cost_limit → o ≡ none
-  none_kept k e = go o k
+module _ (d : Description) (o : Option Row) where
+  pub none_kept : KeptRow d o None → o ≡ none
+  none_kept k = go o k
     where
-      go : (o : Option Row) → KeptRow d o s → o ≡ none
+      go : (o : Option Row) → KeptRow d o None → o ≡ none
       go none k = refl
-      go (some row) k = absurd (omega (arith, k.4, k.5, e))
+      go (some row) (q, size, low, same, e) = cc
 
   -- the kept cost is that of the kept placement, and the row is theirs
-  pub some-kept : KeptRow d o s → (get_or s best_cost_at 0 ≡ cost_limit → ⊥) → (bytes : List ℕ)
-      → bytes ≡ digits (length d.blocks) (get_or s best_place_at 0) ++ replicate (16 - length d.blocks) 0
-      → (get_or s best_cost_at 0 ≡ cost d bytes) × (o ≡ some (record { cost = get_or s best_cost_at 0; placement = bytes; bill = bill_of d bytes }))
-  some-kept k n bytes e = go o k
+  pub some-kept : (best : Met) → KeptRow d o (Some best) → (bytes : List ℕ)
+      → bytes ≡ digits (length d.blocks) best.place ++ replicate (16 - length d.blocks) 0
+      → (best.weight ≡ cost d bytes) × (o ≡ some (record { cost = best.weight; placement = bytes; bill = bill_of d bytes }))
+  some-kept best k bytes e = go o k
     where
-      go : (o : Option Row) → KeptRow d o s
-          → (get_or s best_cost_at 0 ≡ cost d bytes) × (o ≡ some (record { cost = get_or s best_cost_at 0; placement = bytes; bill = bill_of d bytes }))
-      go none k = absurd (n k)
-      go (some row) (q, size, low, same, price, small, packed) =
+      go : (o : Option Row) → KeptRow d o (Some best)
+          → (best.weight ≡ cost d bytes) × (o ≡ some (record { cost = best.weight; placement = bytes; bill = bill_of d bytes }))
+      go none k = cc
+      go (some row) (q, size, low, same, kept) =
           let behind : List ℕ → List ℕ = λ x. x ++ replicate (16 - length d.blocks) 0 in
+          let price : best.weight ≡ row.cost = cc in
+          let packed : best.place ≡ pack q = cc in
           let shown : bytes ≡ padded d q =
           e ∙ ap (λ x. behind (digits (length d.blocks) x)) packed ∙ ap behind (digits-pack (length d.blocks) q size low) in (
             price ∙ sym (ap (λ x. x.cost) same) ∙ ap (cost d) (sym shown),

@@ -6,14 +6,13 @@ use native.Mathlib.Omega.{arith}
 use mathlib.Core.Path.{◌≡◌, refl, sym, ap, ◌∙◌}
 use mathlib.Core.Bool.{Bool, true, false, cond}
 use mathlib.Core.List.{List, [], ◌∷◌, ◌++◌, map, foldl, append_assoc, append-nil}
-use lib.ListN.{length, get_or, take, drop, length-append, take-append-drop, length-drop}
+use lib.ListN.{length, take, drop, length-append, take-append-drop, length-drop}
 use lib.Seq.{length-take-le, take_at, drop_at, drop-drop}
 use Rattle.visit.specs.Tables.{Tests}
-use Rattle.visit.specs.Visits.{rows_at, see, with_row, keep_row}
-use Rattle.visit.proofs.Cases.{kept-other, kept_row, row-behind}
+use Rattle.visit.specs.declared.counts.Keep.{Keep}
+use Rattle.visit.proofs.Cases.{row-counted, other-counted, kept-other, kept_row, row-behind}
 use Rattle.visit.proofs.Classes.{is_row as is_row_by}
-use Rattle.visit.proofs.Counters.{one, Counts, see-at, still-counts}
-use Rattle.walk.specs.Walking.{Sight}
+use Rattle.visit.proofs.Counters.{keeping}
 use Rattle.sorting.specs.Rows.{flat}
 use Rattle.sorting.proofs.Rows.{flat-none, flat-more}
 use Rattle.sequences.specs.Lists.{keep}
@@ -37,6 +36,21 @@ module _ (k : ℕ) (vs ws : List ℕ) (h : k + length vs ≤ length ws) where
       sym (drop-drop j (k + length vs) middle)
       ∙ ap (drop j) (drop_at (take k ws ++ vs) (drop (k + length vs) ws) (k + length vs) front_length) ∙ drop-drop j (k + length vs) ws
 
+-- the words after some rows are put in, if there were n rows before and m are put in
+abbrev pub after : (n m : ℕ) → List (ℕ × ℕ) → List ℕ → List ℕ
+after n m rows ws = take (n * 2) ws ++ flat rows ++ drop ((n + m) * 2) ws
+
+one-row : (n m : ℕ) (r : ℕ × ℕ) (rows : List (ℕ × ℕ)) (ws : List ℕ) → (n + (m + 1)) * 2 ≤ length ws
+    → after (n + 1) m rows (take (n * 2) ws ++ (r.0 ∷ r.1 ∷ []) ++ drop (n * 2 + 2) ws) ≡ after n (m + 1) (r ∷ rows) ws
+one-row n m r rows ws h =
+    let vs : List ℕ = r.0 ∷ r.1 ∷ [] in
+    let room : n * 2 + 2 ≤ length ws = omega arith in
+    let e : (n + 1) * 2 ≡ n * 2 + 2 = omega arith in
+    let f : (n + 1 + m) * 2 ≡ n * 2 + 2 + m * 2 = omega arith in
+    let g : (n + (m + 1)) * 2 ≡ n * 2 + 2 + m * 2 = omega arith in
+    rw (e, f, g, flat-more r rows, front_of (n * 2) vs ws room, beyond (n * 2) vs ws room (m * 2))
+    (ap (λ l. l ++ drop (n * 2 + 2 + m * 2) ws) (append_assoc (take (n * 2) ws) vs (flat rows)))
+
 module _ {A : Type 0} (weight number : A → ℕ) (tests : A → Tests) where
   abbrev is_row : A → Bool
   is_row a = is_row_by (weight a) (tests a)
@@ -44,73 +58,50 @@ module _ {A : Type 0} (weight number : A → ℕ) (tests : A → Tests) where
   abbrev words : A → ℕ × ℕ
   words a = (weight a, number a)
 
-  abbrev seeing : List ℕ → A → List ℕ
-  seeing s a = see (weight a) (number a) (tests a) s
-
-  abbrev kept : A → List ℕ → List ℕ → List ℕ
-  kept a s ws = keep_row (weight a) (number a) (tests a) s ws
-
-  abbrev keeping : Sight → A → Sight
-  keeping v a = (seeing v.0 a, kept a v.0 v.1)
-
-  -- how many rows there were
-  abbrev rows : List ℕ → ℕ
-  rows s = get_or s rows_at 0
-
-  -- one placement: a row is put in, any other leaves the words unchanged
-  put_in : (a : A) (s ws : List ℕ) → Counts s → is_row a ≡ true → kept a s ws ≡ with_row (rows s) (weight a) (number a) ws
-  put_in a s ws c e = kept_row (weight a) (number a) (tests a) s ws c.on e
-
-  left_out : (a : A) (s ws : List ℕ) → is_row a ≡ false → kept a s ws ≡ ws
-  left_out a s ws e = kept-other (weight a) (number a) (tests a) s ws e
-
-  -- the words after a list of placements, if there were n rows before and m are met
-  abbrev after : (n m : ℕ) → List (ℕ × ℕ) → List ℕ → List ℕ
-  after n m rows ws = take (n * 2) ws ++ flat rows ++ drop ((n + m) * 2) ws
+  abbrev step : Keep → A → Keep
+  step = keeping weight number tests
 
   -- the same for a given list of placements
   abbrev leave : (n : ℕ) → List A → List ℕ → List ℕ
   leave n rows ws = after n (length rows) (map words rows) ws
 
-  one-row : (n m : ℕ) (r : ℕ × ℕ) (rows : List (ℕ × ℕ)) (ws : List ℕ) → (n + (m + 1)) * 2 ≤ length ws
-      → after (n + 1) m rows (take (n * 2) ws ++ (r.0 ∷ r.1 ∷ []) ++ drop (n * 2 + 2) ws) ≡ after n (m + 1) (r ∷ rows) ws
-  one-row n m r rows ws h =
-      let vs : List ℕ = r.0 ∷ r.1 ∷ [] in
-      let room : n * 2 + 2 ≤ length ws = omega arith in
-      let e : (n + 1) * 2 ≡ n * 2 + 2 = omega arith in
-      let f : (n + 1 + m) * 2 ≡ n * 2 + 2 + m * 2 = omega arith in
-      let g : (n + (m + 1)) * 2 ≡ n * 2 + 2 + m * 2 = omega arith in
-      rw (e, f, g, flat-more r rows, front_of (n * 2) vs ws room, beyond (n * 2) vs ws room (m * 2))
-      (ap (λ l. l ++ drop (n * 2 + 2 + m * 2) ws) (append_assoc (take (n * 2) ws) vs (flat rows)))
-
   -- THE WORDS OF A WALK THAT COUNTS
-  pub kept-words : (l : List A) (s ws : List ℕ) → Counts s → (rows s + length (keep is_row l)) * 2 ≤ length ws
-      → (foldl keeping (s, ws) l).1 ≡ after (rows s) (length (keep is_row l)) (map words (keep is_row l)) ws
-  kept-words [] s ws c h =
-      sym (ap (λ l. (take (rows s * 2) ws ++ l) ++ drop ((rows s + 0) * 2) ws) flat-none
-      ∙ ap (λ l. l ++ drop ((rows s + 0) * 2) ws) (append-nil (take (rows s * 2) ws))
-      ∙ ap (λ k. take (rows s * 2) ws ++ drop (k * 2) ws) (add-zero (rows s)) ∙ take-append-drop (rows s * 2) ws)
-  kept-words (a ∷ l) s ws c h =
-      step (kept-words l (seeing s a) (kept a s ws) (still-counts weight number tests s a c)) (is_row a) refl h
+  pub kept-words : (l : List A) (k : Keep) → (k.count.rows + length (keep is_row l)) * 2 ≤ length k.keys.now
+      → (foldl step k l).keys.now ≡ after k.count.rows (length (keep is_row l)) (map words (keep is_row l)) k.keys.now
+  kept-words [] k h =
+      let n : ℕ = k.count.rows in
+      let ws : List ℕ = k.keys.now in
+      sym (ap (λ l. (take (n * 2) ws ++ l) ++ drop ((n + 0) * 2) ws) flat-none
+      ∙ ap (λ l. l ++ drop ((n + 0) * 2) ws) (append-nil (take (n * 2) ws))
+      ∙ ap (λ m. take (n * 2) ws ++ drop (m * 2) ws) (add-zero n) ∙ take-append-drop (n * 2) ws)
+  kept-words (a ∷ l) k h = go (kept-words l (step k a)) (is_row a) refl h
     where
-      step : ((rows (seeing s a) + length (keep is_row l)) * 2 ≤ length (kept a s ws)
-          → (foldl keeping (keeping (s, ws) a) l).1 ≡ leave (rows (seeing s a)) (keep is_row l) (kept a s ws))
-          → (b : Bool) → is_row a ≡ b → (rows s + length (cond b (a ∷ keep is_row l) (keep is_row l))) * 2 ≤ length ws
-          → (foldl keeping (keeping (s, ws) a) l).1 ≡ leave (rows s) (cond b (a ∷ keep is_row l) (keep is_row l)) ws
-      step rest true e k =
-          let n : ℕ = rows s in
+      ws : List ℕ
+      ws = k.keys.now
+
+      n : ℕ
+      n = k.count.rows
+
+      go : (((step k a).count.rows + length (keep is_row l)) * 2 ≤ length (step k a).keys.now
+          → (foldl step (step k a) l).keys.now ≡ leave (step k a).count.rows (keep is_row l) (step k a).keys.now)
+          → (b : Bool) → is_row a ≡ b → (n + length (cond b (a ∷ keep is_row l) (keep is_row l))) * 2 ≤ length ws
+          → (foldl step (step k a) l).keys.now ≡ leave n (cond b (a ∷ keep is_row l) (keep is_row l)) ws
+      go rest true e h =
           let m : ℕ = length (keep is_row l) in
-          let counted : rows (seeing s a) ≡ n + 1 =
-          see-at (weight a) (number a) (tests a) s c.size c.on rows_at (omega arith) ∙ ap (λ b. n + one b) e in
-          let stored = put_in a s ws c e ∙ row-behind n (weight a) (number a) ws (omega arith) in
-          let same : length (kept a s ws) ≡ length ws =
+          let counted = row-counted (weight a) (number a) (tests a) k.count e in
+          let stored = kept_row (weight a) (number a) (tests a) k.count ws e ∙ row-behind n (weight a) (number a) ws (omega arith) in
+          let same : length (step k a).keys.now ≡ length ws =
           ap length stored ∙ middle-length (n * 2) (weight a ∷ number a ∷ []) ws (omega arith) in
           rest (omega (arith, counted, same))
           ∙ (λ i. after (counted i) m (map words (keep is_row l)) (stored i)) ∙ one-row n m (words a) (map words (keep is_row l)) ws (omega arith)
           ∙ ap (λ x. after n x (words a ∷ map words (keep is_row l)) ws) (add-one m)
-      step rest false e k =
-          let counted : rows (seeing s a) ≡ rows s =
-          see-at (weight a) (number a) (tests a) s c.size c.on rows_at (omega arith) ∙ ap (λ b. rows s + one b) e ∙ add-zero (rows s) in
-          let same = left_out a s ws e in
+      go rest false e h =
+          let counted = other-counted (weight a) (number a) (tests a) k.count e ∙ add-zero n in
+          let same = kept-other (weight a) (number a) (tests a) k.count ws e in
           rest (omega (arith, counted, ap length same))
           ∙ (λ i. after (counted i) (length (keep is_row l)) (map words (keep is_row l)) (same i))
+
+  -- they are the words that were lent
+  pub kept-reference : (l : List A) (k : Keep) → (foldl step k l).keys.ghost_name ≡ k.keys.ghost_name
+  kept-reference [] k = refl
+  kept-reference (a ∷ l) k = kept-reference l (step k a)

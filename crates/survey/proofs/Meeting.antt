@@ -5,8 +5,8 @@ use lib.ListN.{length}
 use Rattle.description.specs.Declarations.{Description}
 use Rattle.description.specs.Invariants.{WellFormed}
 use Rattle.security.proofs.PermittedClouds.{masks-permitted, masks-choose}
-use Rattle.walk.specs.Walking.{see_at, keep_at}
-use Rattle.walk.proofs.Whole.{seen-in-turn, kept-in-turn}
+use Rattle.walk.specs.Walking.{see_at}
+use Rattle.walk.proofs.Whole.{seen-in-turn}
 use Rattle.table_entries.specs.Building.{tables_of}
 use Rattle.table_entries.proofs.Built.{placements-by-masks}
 use Rattle.survey.specs.Meeting.{MeetsCandidates}
@@ -17,8 +17,7 @@ walk-meets-candidates d w =
     let t = tables_of d in
     let n = length d.blocks in
     record {
-      sees = λ s. seen-in-turn t n s ∙ ap (foldl (see_at t n) s) (placements-by-masks d w);
-      keeps = λ s words. kept-in-turn t n s words ∙ ap (λ l. (foldl (keep_at t n) (s, words) l).1) (placements-by-masks d w);
+      sees = λ see v. seen-in-turn see t n v ∙ ap (foldl (see_at see t n) v) (placements-by-masks d w);
       permitted = masks-permitted d w.limits;
       chooses = masks-choose d w.limits;
     }

@@ -2,7 +2,7 @@
 use Prim.Native.Nat.{ℕ, ◌*◌, ◌-◌, ◌≤◌}
 use native.Mathlib.Nat.{zero-add}
 use native.Mathlib.Omega.{arith}
-use mathlib.Core.Path.{◌≡◌, refl, sym, ap, ap₂, subst, subst₂, ◌∙◌}
+use mathlib.Core.Path.{◌≡◌, sym, ap, ap₂, subst, subst₂, ◌∙◌}
 use mathlib.Core.Bool.{Bool, ◌&&◌, ◌||◌}
 use mathlib.Core.List.Memᴰ
 use mathlib.Core.List.{List, ◌++◌, map, map-map, Memᴰ}
@@ -25,8 +25,10 @@ use Rattle.packing.specs.Packing.{pack, digits}
 use Rattle.packing.proofs.Digits.{digits-pack}
 use Rattle.weights.specs.Weights.{is_unexposed}
 use Rattle.visit.specs.Tables.{weight, tests_of}
-use Rattle.visit.specs.Visits.{passes}
-use Rattle.walk.proofs.Whole.{kept-in-turn}
+use Rattle.visit.specs.declared.counts.Keep.{Keep}
+use Rattle.visit.specs.Visits.{passes, to_count, kept}
+use Rattle.visit.proofs.Counters.{counters, keeping-counts}
+use Rattle.walk.proofs.Whole.{seen-in-turn}
 use Rattle.sorting.specs.Rows.{flat, lower, pairs}
 use Rattle.sorting.proofs.Rows.{length-flat, pairs-flat, lower-is}
 use Rattle.security.specs.Masks.{padded}
@@ -35,11 +37,11 @@ use Rattle.survey.specs.declared.Row.{Row}
 use Rattle.survey.specs.Joining.{Joined, met}
 use Rattle.survey.specs.Rows.{secure_placements, row_of, earlier, stands, rows}
 use Rattle.survey.specs.RowWords.{row_key, keys_needed, unsorted}
-use Rattle.survey.specs.Surveys.{to_count, kept_of}
+use Rattle.survey.specs.Surveys.{seen_of}
 use Rattle.survey.proofs.Counting.{rows-length}
 use Rattle.survey.proofs.Drawing.{standing}
 use Rattle.survey.proofs.Joins.{joined, ordered}
-use Rattle.survey.proofs.Keeping.{kept-words}
+use Rattle.survey.proofs.Keeping.{kept-words, kept-reference}
 use Rattle.survey.proofs.Walked.{unexposed-is, is-row}
 
 module _ (d : Description) (a : Admitted d) where
@@ -91,11 +93,24 @@ module _ (d : Description) (a : Admitted d) where
       omega (arith, rows-number, two-parts is_row met', length-map met' (padded d), ap length j.candidates_are, count-is-length d)
 
   -- A WALK THAT COUNTS KEEPS THE ROWS, in the walk's order, if there is room
-  pub walk-keeps : (words : List ℕ) → keys_needed d ≤ length words → kept_of d to_count words ≡ unsorted d ++ drop (keys_needed d) words
-  walk-keeps words h =
-      kept-in-turn (tables_of d) n to_count words
-      ∙ kept-words W pack (tests_of (tables_of d) n) met' to_count words (record { size = refl; on = refl }) (rw (zero-add, rows-number) h)
-      ∙ ap₂ (λ a b. a ++ drop (b * 2) words) kept-unsorted (zero-add (length (keep is_row met')) ∙ rows-number)
+  pub walk-keeps : (k : Keep) → k.count ≡ to_count → keys_needed d ≤ length k.keys.now
+      → (seen_of kept d k).keys.now ≡ unsorted d ++ drop (keys_needed d) k.keys.now
+  walk-keeps k e h =
+      let none : k.count.rows ≡ 0 = ap (λ c. c.rows) e in
+      ap (λ x. x.keys.now) (seen-in-turn kept (tables_of d) n k)
+      ∙ kept-words W pack (tests_of (tables_of d) n) met' k (rw (none, zero-add, rows-number) h)
+      ∙ rw (none, zero-add) (ap₂ (λ a b. a ++ drop (b * 2) k.keys.now) kept-unsorted rows-number)
+
+  -- and it counts them
+  pub walk-counts : (k : Keep) → k.count ≡ to_count → (seen_of kept d k).count.rows ≡ length (rows d)
+  walk-counts k e =
+      ap (λ x. x.count.rows) (seen-in-turn kept (tables_of d) n k)
+      ∙ ap (λ c. c.rows) (keeping-counts W pack (tests_of (tables_of d) n) met' k)
+      ∙ (counters W pack (tests_of (tables_of d) n) met' k.count).rows
+      ∙ rw (e, zero-add) rows-number
+
+  pub walk-lends : (k : Keep) → (seen_of kept d k).keys.ghost_name ≡ k.keys.ghost_name
+  walk-lends k = ap (λ x. x.keys.ghost_name) (seen-in-turn kept (tables_of d) n k) ∙ kept-reference W pack (tests_of (tables_of d) n) met' k
 
   -- a row is that of a placement that was met
   met_of : (x : Row) → Memᴰ x (map (row_of d) (standing d)) → (q : List ℕ) × Memᴰ q met' × (row_of d (padded d q) ≡ x)

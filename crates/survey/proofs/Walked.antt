@@ -1,5 +1,5 @@
 -- A walk over the tables of a description that counts sees its census, and one that draws keeps the row that the draw answers.
-use Prim.Native.Nat.{ℕ, zero, suc, ◌+◌, ◌≤◌, ◌<◌}
+use Prim.Native.Nat.{ℕ, ◌+◌, ◌<◌}
 use native.Mathlib.Nat.{zero-add}
 use native.Mathlib.Omega.{arith}
 use mathlib.Core.Path.{◌≡◌, refl, sym, ap, ap₂, subst, ◌∙◌}
@@ -7,8 +7,7 @@ use mathlib.Core.Bool.{Bool, true, false, not, ◌&&◌, ◌||◌, cond, not-not
 use mathlib.Core.List.{List, [], ◌∷◌, foldl, foldl-map, Memᴰ}
 use mathlib.Core.Option.{Option, none, some}
 use lib.Dec.{ltb, eqb}
-use lib.ListN.{length, get_or, length-map}
-use borrow.Author.Tests.{ne_eqb}
+use lib.ListN.{length, length-map}
 use Rattle.sequences.specs.Draws.{better_if, beats}
 use Rattle.sequences.specs.Lists.{keep, before}
 use Rattle.sequences.proofs.Agreeing.{keep-agree, keep-map}
@@ -24,10 +23,12 @@ use Rattle.weights.specs.Weights.{is_unexposed, secure_class, clash_class}
 use Rattle.weights.proofs.Classes.{class-unexposed as weight-unexposed}
 use Rattle.visit.specs.Tables.{Tables, Tests, weight, tests_of}
 use Rattle.visit.specs.Tables.{stands as stands_by}
-use Rattle.visit.specs.Visits.{rows_at, class_at, passes, see}
+use Rattle.visit.specs.declared.counts.Count.{Count}
+use Rattle.visit.specs.declared.draws.Draw.{Draw}
+use Rattle.visit.specs.Visits.{class_at, passes, counted, to_count, drawn, to_draw}
 use Rattle.visit.specs.Visits.{earlier as walk_earlier}
 use Rattle.visit.proofs.Classes.{class-secure, class-clash, class-exposed}
-use Rattle.visit.proofs.Counters.{Counts, counted_as, counters}
+use Rattle.visit.proofs.Counters.{Counted, counters}
 use Rattle.visit.proofs.Drawing.{Fits, Kept, kept-all}
 use Rattle.walk.specs.Walking.{see_all}
 use Rattle.walk.proofs.Whole.{seen-in-turn}
@@ -36,7 +37,6 @@ use Rattle.survey.specs.declared.Row.{Row}
 use Rattle.survey.specs.declared.Cursor.{Cursor}
 use Rattle.survey.specs.Joining.{Joined, met}
 use Rattle.survey.specs.Rows.{census, secure_placements, earlier, row_of, rows, stands, later, draw}
-use Rattle.survey.specs.Surveys.{to_count, to_draw}
 use Rattle.survey.proofs.Counting.{options-number, rows-length}
 use Rattle.survey.proofs.Drawing.{draw-walks}
 
@@ -86,60 +86,47 @@ module _ (d : Description) (t : Tables) (j : Joined d t) where
 
   -- ---- a walk that counts sees the census
 
-  abbrev counted : List ℕ
-  counted = see_all t n to_count
+  abbrev seen : Count
+  seen = see_all counted t n to_count
 
-  counts : Counts to_count
-  counts = record { size = refl; on = refl }
+  counters-are : Counted W pack T (met d t) to_count seen
+  counters-are =
+      subst (Counted W pack T (met d t) to_count) (sym (seen-in-turn counted t n to_count)) (counters W pack T (met d t) to_count)
 
-  -- what a counter counts is a test of candidates
-  counted-at : (k : ℕ) → k ≤ rows_at → (test : List ℕ → Bool)
-      → ((q : List ℕ) → Memᴰ q (met d t) → counted_as W pack T k q ≡ test (padded d q))
-      → get_or counted k 0 ≡ get_or to_count k 0 + length (keep test (candidates d))
-  counted-at k h test same =
-      ap (λ l. get_or l k 0) (seen-in-turn t n to_count) ∙ counters W pack T k h (met d t) to_count counts ∙
-      ap (λ m. get_or to_count k 0 + m) (among test _ same)
-
-  -- the same for the counter of a class, which begins at 0
-  class-counted : (k : ℕ) → k < rows_at → (test : List ℕ → Bool)
-      → ((q : List ℕ) → Memᴰ q (met d t) → eqb (class_at (W q) (T q)) k ≡ test (padded d q)) → get_or counted k 0 ≡ length (keep test (candidates d))
-  class-counted k h test same =
-      counted-at k (omega arith) test (λ q m. rw (ne_eqb k rows_at (λ e. omega arith)) (same q m)) ∙
-      ap (λ c. c + length (keep test (candidates d))) (zeros k h) ∙ zero-add _
-    where
-      zeros : (k : ℕ) → k < rows_at → get_or to_count k 0 ≡ 0
-      zeros zero h = refl
-      zeros (suc zero) h = refl
-      zeros (suc (suc zero)) h = refl
-      zeros (suc (suc (suc zero))) h = refl
-      zeros (suc (suc (suc (suc k)))) h = absurd (omega arith)
+  -- a counter, which begins at 0, counts the candidates that pass a test
+  counted-as : (count : ℕ) (mine : List ℕ → Bool) → count ≡ 0 + length (keep mine (met d t)) → (test : List ℕ → Bool)
+      → ((q : List ℕ) → Memᴰ q (met d t) → mine q ≡ test (padded d q)) → count ≡ length (keep test (candidates d))
+  counted-as count mine e test same = e ∙ zero-add _ ∙ among test mine same
 
   -- a class that the edges decide
   edges-class : (k : ℕ) → secure_class < k → k < clash_class → (q : List ℕ) → Memᴰ q (met d t)
       → eqb (class_at (W q) (T q)) k ≡ eqb (class_in d (padded d q)) k
   edges-class k low high q m = class-exposed (W q) (T q) k low high ∙ ap (λ c. eqb c k) (j.class_is q m)
 
-  pub sees-16 : get_or counted 1 0 ≡ (census d).breaking16
+  pub sees-16 : seen.breaks_first ≡ (census d).breaking16
   unfolding census
-  sees-16 = class-counted 1 (omega arith) (broken16 d) (λ q m. edges-class 1 (omega arith) (omega arith) q m ∙ class-16 d (padded d q))
+  sees-16 = counted-as seen.breaks_first _ counters-are.breaks_first (broken16 d)
+      (λ q m. edges-class 1 (omega arith) (omega arith) q m ∙ class-16 d (padded d q))
 
-  pub sees-17 : get_or counted 2 0 ≡ (census d).breaking17only
+  pub sees-17 : seen.breaks_second ≡ (census d).breaking17only
   unfolding census
-  sees-17 = class-counted 2 (omega arith) (λ p. not (broken16 d p) && broken17 d p)
+  sees-17 = counted-as seen.breaks_second _ counters-are.breaks_second (λ p. not (broken16 d p) && broken17 d p)
       (λ q m. edges-class 2 (omega arith) (omega arith) q m ∙ class-17 d (padded d q))
 
-  pub sees-apart : get_or counted 3 0 ≡ (census d).apartonly
+  pub sees-apart : seen.clashes ≡ (census d).apartonly
   unfolding census
-  sees-apart = class-counted 3 (omega arith) (λ p. unexposed d p && broken_apart d p) (λ q m.
+  sees-apart = counted-as seen.clashes _ counters-are.clashes (λ p. unexposed d p && broken_apart d p) (λ q m.
       class-clash (W q) (T q) ∙ ap₂ (λ x y. x && not y) (unexposed-is q m) (j.apart_is q m) ∙
       ap (λ b. unexposed d (padded d q) && b) (not-not (broken_apart d (padded d q))))
 
-  pub sees-secure : get_or counted 0 0 ≡ (census d).secure
+  pub sees-secure : seen.secure ≡ (census d).secure
   unfolding census secure_placements
-  sees-secure = class-counted 0 (omega arith) (secure d) (λ q m. class-secure (W q) (T q) ∙ ap₂ ◌&&◌ (unexposed-is q m) (j.apart_is q m))
+  sees-secure = counted-as seen.secure _ counters-are.secure (secure d)
+      (λ q m. class-secure (W q) (T q) ∙ ap₂ ◌&&◌ (unexposed-is q m) (j.apart_is q m))
 
-  pub sees-options : get_or counted rows_at 0 ≡ (census d).options
-  sees-options = counted-at rows_at (omega arith) (λ p. secure d p && stands d p) is-row ∙ zero-add _ ∙ sym (rows-number d) ∙ options-number d
+  pub sees-options : seen.rows ≡ (census d).options
+  sees-options =
+      counted-as seen.rows _ counters-are.rows (λ p. secure d p && stands d p) is-row ∙ sym (rows-number d) ∙ options-number d
 
   -- ---- a walk that draws keeps the row that the draw answers, if numbers order placements and the floor is the cursor's
 
@@ -150,7 +137,7 @@ module _ (d : Description) (t : Tables) (j : Joined d t) where
     abbrev row : List ℕ → Row
     row q = row_of d (padded d q)
 
-    abbrev Keeps : List ℕ → Option Row → Type 0
+    abbrev Keeps : Draw → Option Row → Type 0
     Keeps = Kept earlier (later c) row (λ r. r.cost) W pack T (λ q. unexposed d (padded d q)) cost₀ place₀ (met d t)
 
     fits : Fits earlier (later c) row (λ r. r.cost) W pack T (λ q. unexposed d (padded d q)) cost₀ place₀ (met d t)
@@ -171,14 +158,14 @@ module _ (d : Description) (t : Tables) (j : Joined d t) where
         (sym (ap (λ x. x && passes (T q)) (unexposed-is q m)) ∙ is-row q m)
 
     nothing-kept : Keeps (to_draw cost₀ place₀) none
-    nothing-kept = record { asked = record { size = refl; off = refl; floor_is = refl; place_is = refl }; best = (refl, refl) }
+    nothing-kept = record { asked = refl; best = refl }
 
-    pub draws : Keeps (see_all t n (to_draw cost₀ place₀)) (draw d c)
+    pub draws : Keeps (see_all drawn t n (to_draw cost₀ place₀)) (draw d c)
     draws =
         let better = better_if earlier (later c) (λ p. secure d p && stands d p) (row_of d) in
         let same = foldl-agree _ _ (met d t) agree none ∙ sym (foldl-map (padded d) better (met d t) none) ∙
         ap (foldl better none) j.candidates_are ∙ sym (draw-walks d c) in
-        subst (λ s. Keeps s (draw d c)) (sym (seen-in-turn t n (to_draw cost₀ place₀)))
-        (subst (Keeps (foldl (λ s q. see (W q) (pack q) (T q) s) (to_draw cost₀ place₀) (met d t))) same
+        subst (λ s. Keeps s (draw d c)) (sym (seen-in-turn drawn t n (to_draw cost₀ place₀)))
+        (subst (Keeps (foldl (λ s q. drawn (W q) (pack q) (T q) s) (to_draw cost₀ place₀) (met d t))) same
         (kept-all earlier (later c) row (λ r. r.cost) W pack T (λ q. unexposed d (padded d q)) cost₀ place₀ (met d t) fits
         (met d t) (λ q m. m) (to_draw cost₀ place₀) none nothing-kept))

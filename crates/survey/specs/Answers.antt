@@ -1,9 +1,5 @@
--- The answers to the three questions, in the words of the definitions.
-use Rattle.std.specs.Prelude.{cond, replicate}
-use Rattle.std.proofs.Math.Option.{Option, none, some}
+-- The counts, in the words of the definitions.
 use Rattle.survey.specs.declared.Figures.{Figures}
-use Rattle.survey.specs.declared.Next.{Next}
-use Rattle.survey.specs.declared.Row.{Row}
 use Rattle.survey.specs.Rows.{Census}
 
 -- the six counts
@@ -16,15 +12,3 @@ figures_of c = record {
   secure = c.secure;
   options = c.options;
 }
-
--- a row, or none
-abbrev pub row_in : Next → Option Row
-row_in n = cond n.found (some n.row) none
-
--- if there is no row, zeros are in its place
-abbrev pub zero_row : Row
-zero_row = record { cost = 0; placement = replicate 16 0; bill = record { storage = 0; transfer = 0; cpu = 0 } }
-
-abbrev pub row_or : Option Row → Row
-row_or (some row) = row
-row_or none = zero_row

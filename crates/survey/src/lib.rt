@@ -2,30 +2,27 @@
 #![tactic(auto)]
 
 ghost use Rattle.std.specs.Prelude.{◌≡◌, ◌++◌, ◌≤◌, length, drop};
-ghost use Rattle.description.specs.Meaning.{describes};
-ghost use Rattle.security.specs.Accepted.{Admitted};
-ghost use Rattle.security.specs.Masks.{masks_of};
-ghost use Rattle.security.specs.Soundness.{count};
-ghost use Rattle.visit.specs.Visits.{Fresh};
-ghost use Rattle.survey.specs.Answers.{figures_of, row_in, row_or, zero_row};
+ghost use Rattle.security.specs.Accepted.{Admitted as IsAdmitted};
+ghost use Rattle.visit.specs.Visits.{to_count};
+ghost use Rattle.sequences.specs.Options.{given};
+ghost use Rattle.survey.specs.Answers.{figures_of};
 ghost use Rattle.survey.specs.RowWords.{keys_needed, unsorted};
 ghost use Rattle.survey.specs.Rows.{census, draw, rows as rows_of};
-ghost use Rattle.survey.specs.Surveys.{to_count, to_draw, seen_of, kept_of, Asks};
+ghost use Rattle.survey.specs.Surveys.{seen_of, Asks};
 
+use admission::Admitted;
 use costs::answers::Bill;
 use costs::bills::bill_of;
-use description::words::Words;
-use description::workflow::block_count;
 use packing::{floor_place, unpacked};
-use soundness::masks::Masks;
-use visit::tables::{TABLE_BYTES, TABLE_WORDS};
-use visit::{BEST_COST, BEST_PLACE, COUNTING, FLOOR_COST, FLOOR_PLACE, ROWS, STATE, State};
+use visit::counts::{Count, Keep};
+use visit::draws::Draw;
+use visit::tables::{TABLE_BYTES, TABLE_WORDS, Tables};
+use visit::{Met, Visitor};
 use walk::walk_all;
-use weights::{BREAKS_FIRST, BREAKS_SECOND, CLASHES, COST_LIMIT, SECURE};
 
 // The scope's "row": the cost and the sixteen cloud numbers of the placement that represents its option, and its bill, whose three amounts add up to
 // the cost.
-#[derive(Clone, Copy)]
+#[derive(Clone, Copy, Debug, PartialEq, Eq)]
 pub struct Row {
     pub cost: u64,
     pub placement: [u8; 16],
@@ -34,7 +31,7 @@ pub struct Row {
 
 // Where a draw continues: from the start, or past a cost and sixteen bytes. Only `start` marks the start: cost 0 with sixteen zeros is a
 // cursor like any other.
-#[derive(Clone, Copy)]
+#[derive(Clone, Copy, Debug, PartialEq, Eq)]
 pub struct Cursor {
     pub start: bool,
     pub cost: u64,
@@ -42,7 +39,7 @@ pub struct Cursor {
 }
 
 // How many candidates there are, how many of each kind, and how many different options.
-#[derive(Clone, Copy)]
+#[derive(Clone, Copy, Debug, PartialEq, Eq)]
 pub struct Figures {
     pub candidates: u64,
     pub breaking16: u64,
@@ -52,143 +49,108 @@ pub struct Figures {
     pub options: u64,
 }
 
-// The first row past a cursor, if there is one; otherwise there are zeros in its place.
-#[derive(Clone, Copy)]
-pub struct Next {
-    pub found: bool,
-    pub row: Row,
-}
-
 // The walk over the tables of the workflow.
-fn walk_over(w: &Words, masks: &Masks, state: &mut State, kept: &mut [u64])
-    requires admitted { Admitted (describes w.now) }
-    requires masks_value { masks.now ≡ masks_of (describes w.now) }
-    requires fresh { Fresh state.old }
-    ensures state_after { state.new ≡ seen_of (describes w.now) state.old }
-    ensures kept_after { kept.new ≡ kept_of (describes w.now) state.old kept.old }
+fn walk_over<V: Visitor>(admitted: &Admitted<'_>, visitor: &mut V)
+    requires fresh { V.tally visitor.old ≡ 0 }
+    ensures { visitor.new ≡ seen_of V.see admitted.now visitor.old }
 {
+    let w = admitted.description();
     let mut words = [0u64; TABLE_WORDS];
     let mut bytes = [0u8; TABLE_BYTES];
-    tables::fill(w, masks, &mut words, &mut bytes);
-    walk_all(&words, &bytes, block_count(w), state, kept);
+    tables::fill(w, admitted.choices().masks(), &mut words, &mut bytes);
+    let tables = Tables {
+        words: &words,
+        bytes: &bytes,
+        blocks: w.block_count(),
+    };
+    walk_all(&tables, visitor);
 }
 
 // The same; if a block may stand nowhere there is nothing to meet, but the walk would try all clouds of the blocks before it.
-fn walk_candidates(w: &Words, masks: &Masks, candidates: u64, state: &mut State, kept: &mut [u64])
-    requires admitted { Admitted (describes w.now) }
-    requires candidates_value { (candidates ≡ count (describes w.now)) × (masks.now ≡ masks_of (describes w.now)) }
-    requires fresh { Fresh state.old }
-    ensures state_after { state.new ≡ seen_of (describes w.now) state.old }
-    ensures kept_after { kept.new ≡ kept_of (describes w.now) state.old kept.old }
+fn walk_candidates<V: Visitor>(admitted: &Admitted<'_>, visitor: &mut V)
+    requires fresh { V.tally visitor.old ≡ 0 }
+    ensures seen { visitor.new ≡ seen_of V.see admitted.now visitor.old }
+    ensures admitted { IsAdmitted admitted.now }
 {
-    if candidates == 0 {
+    let choices = admitted.choices();
+    if choices.candidates() == 0 {
         return;
     }
-    walk_over(w, masks, state, kept);
-}
-
-fn to_count() -> State
-    ensures { result ≡ to_count }
-{
-    let mut state = [0u64; STATE];
-    state[COUNTING] = 1;
-    state
+    walk_over(admitted, visitor);
 }
 
 // How many candidates there are of each kind. Rule 16 is looked for first, then rule 17, then the pairs.
-pub fn count_all(w: &Words, masks: &Masks, candidates: u64) -> Figures
-    requires admitted { Admitted (describes w.now) }
-    requires candidates_value { (candidates ≡ count (describes w.now)) × (masks.now ≡ masks_of (describes w.now)) }
-    ensures { figures_of result ≡ census (describes w.now) }
+pub fn count_all(admitted: &Admitted<'_>) -> Figures
+    ensures { figures_of result ≡ census admitted.now }
 {
-    let mut state = to_count();
-    let mut none = [0u64; 1];
-    walk_candidates(w, masks, candidates, &mut state, &mut none);
+    let choices = admitted.choices();
+    let mut count = Count::new();
+    walk_candidates(admitted, &mut count);
     Figures {
-        candidates,
-        breaking16: state[BREAKS_FIRST],
-        breaking17only: state[BREAKS_SECOND],
-        apartonly: state[CLASHES],
-        secure: state[SECURE],
-        options: state[ROWS],
+        candidates: choices.candidates(),
+        breaking16: count.breaks_first,
+        breaking17only: count.breaks_second,
+        apartonly: count.clashes,
+        secure: count.secure,
+        options: count.rows,
     }
 }
 
-fn to_draw(floor: u64, place: u64) -> State
-    ensures { result ≡ to_draw floor place }
-{
-    let mut state = [0u64; STATE];
-    state[FLOOR_COST] = floor;
-    state[FLOOR_PLACE] = place;
-    state[BEST_COST] = COST_LIMIT;
-    state
-}
-
-fn to_draw_past(cursor: Cursor, blocks: usize) -> State
+fn to_draw_past(cursor: Cursor, blocks: usize) -> Draw
     requires { blocks ≤ 16 }
     ensures { Asks cursor blocks result }
 {
     if cursor.start {
-        return to_draw(0, 0);
+        return Draw::new(Met {
+            weight: 0,
+            place: 0,
+        });
     }
-    let bytes = cursor.placement;
-    to_draw(cursor.cost, floor_place(bytes, blocks))
+    let place = floor_place(cursor.placement, blocks);
+    let weight = cursor.cost;
+    Draw::new(Met { weight, place })
 }
 
-// What is in the place of a row if there is none.
-pub fn zero_row() -> Row
-    ensures { result ≡ zero_row }
+// The first row past a cursor, if there is one.
+pub fn row_past(admitted: &Admitted<'_>, cursor: Cursor) -> Option<Row>
+    ensures { given result ≡ draw admitted.now cursor }
 {
-    Row {
-        cost: 0,
-        placement: [0u8; 16],
-        bill: Bill {
-            storage: 0,
-            transfer: 0,
-            cpu: 0,
-        },
-    }
-}
-
-// The first row past a cursor.
-pub fn row_past(w: &Words, masks: &Masks, candidates: u64, cursor: Cursor) -> Next
-    requires admitted { Admitted (describes w.now) }
-    requires candidates_value { (candidates ≡ count (describes w.now)) × (masks.now ≡ masks_of (describes w.now)) }
-    ensures result_value { row_in result ≡ draw (describes w.now) cursor }
-    ensures row_value { result.row ≡ row_or (draw (describes w.now) cursor) }
-{
-    let blocks = block_count(w);
-    let mut state = to_draw_past(cursor, blocks);
-    let mut none = [0u64; 1];
-    walk_candidates(w, masks, candidates, &mut state, &mut none);
-    if state[BEST_COST] == COST_LIMIT {
-        return Next {
-            found: false,
-            row: zero_row(),
-        };
-    }
-    let cost = state[BEST_COST];
-    let placement = unpacked(state[BEST_PLACE], blocks);
+    let w = admitted.description();
+    let blocks = w.block_count();
+    let mut draw = to_draw_past(cursor, blocks);
+    walk_candidates(admitted, &mut draw);
+    let best = draw.found()?;
+    let cost = best.weight;
+    let placement = unpacked(best.place, blocks);
     let bill = bill_of(w, &placement, cost);
-    Next {
-        found: true,
-        row: Row {
-            cost,
-            placement,
-            bill,
-        },
-    }
+    Some(Row {
+        cost,
+        placement,
+        bill,
+    })
+}
+
+// The walk that keeps the rows, in words that have room for them.
+fn walk_keeping(admitted: &Admitted<'_>, rows: &mut Keep<'_>)
+    requires fresh { rows.old.count ≡ to_count }
+    requires room { keys_needed admitted.now ≤ length rows.old.keys.now }
+    ensures same_reference { rows.new.keys.ghost_name ≡ rows.old.keys.ghost_name }
+    ensures value { rows.new.count.rows ≡ length (rows_of admitted.now) }
+    ensures keys_after { rows.new.keys.now ≡ unsorted admitted.now ++ drop (keys_needed admitted.now) rows.old.keys.now }
+{
+    walk_candidates(admitted, rows);
 }
 
 // The keys of all rows, in the order of the walk; and how many there are.
-pub fn keep_rows(w: &Words, masks: &Masks, candidates: u64, keys: &mut [u64]) -> usize
-    requires admitted { Admitted (describes w.now) }
-    requires candidates_value { (candidates ≡ count (describes w.now)) × (masks.now ≡ masks_of (describes w.now)) }
-    requires w_in_bounds { keys_needed (describes w.now) ≤ length keys.old }
-    ensures value { result ≡ length (rows_of (describes w.now)) }
-    ensures keys_after { keys.new ≡ unsorted (describes w.now) ++ drop (keys_needed (describes w.now)) keys.old }
+pub fn keep_rows(admitted: &Admitted<'_>, keys: &mut [u64]) -> usize
+    requires { keys_needed admitted.now ≤ length keys.old }
+    ensures value { result ≡ length (rows_of admitted.now) }
+    ensures keys_after { keys.new ≡ unsorted admitted.now ++ drop (keys_needed admitted.now) keys.old }
 {
-    let mut state = to_count();
-    walk_candidates(w, masks, candidates, &mut state, keys);
-    state[ROWS] as usize
+    let mut rows = Keep {
+        count: Count::new(),
+        keys,
+    };
+    walk_keeping(admitted, &mut rows);
+    rows.count.rows as usize
 }

@@ -1,5 +1,5 @@
--- Arrays that a loop fills from the front: with rows of eight, or with the elements of a list that grows.
-use Prim.Native.Nat.{ℕ, ◌+◌, ◌-◌, ◌*◌, ◌%◌, ◌≤◌, ◌<◌}
+-- Arrays that a loop fills: entry by entry, in rows of eight, or from the front with the elements of a list that grows.
+use Prim.Native.Nat.{ℕ, ◌+◌, ◌-◌, ◌*◌, ◌≤◌, ◌<◌}
 use native.Mathlib.Decide.{dec_lt, ℕ_discrete}
 use native.Mathlib.Omega.{arith}
 use mathlib.Core.Path.{◌≡◌, refl, sym, ◌∙◌}
@@ -9,13 +9,29 @@ use lib.Seq.{get_or-append_seam, get_or-set_same, get_or-set_other, ext_get_or}
 use Rattle.sequences.specs.Arrays.{table}
 use Rattle.sequences.proofs.Filling.{Filled, length-table, get_or-table}
 use Rattle.sequences.proofs.Indexing.{zeros-at}
-use Rattle.table_entries.specs.Building.{Listed, sides_together, RowFilled}
+use Rattle.table_entries.specs.Building.{Listed, Stored}
+
+-- entries that are stored one by one
+
+module _ {f : ℕ → ℕ} {at : ℕ} {before : List ℕ} where
+  pub stored_none : Stored f at 0 before before
+  stored_none = record { size = refl; entry = λ i h. absurd (omega arith); others = λ j out. refl }
+
+  pub stored_more : {a : List ℕ} {n k v : ℕ} → Stored f at n before a → k ≡ at + n → k < length before → v ≡ f n
+      → Stored f at (n + 1) before (set a k v)
+  stored_more {a} {n} {k} {v} s here low e = record {
+    size = length-set a k v ∙ s.size;
+    entry = λ i h. elim (ℕ_discrete i n) [
+      | yes q ↦ rw (q, here) (get_or-set_same a (at + n) v 0 (omega (arith, s.size)) ∙ e)
+      | no q ↦ get_or-set_other a k (at + i) v 0 (λ r. omega arith) ∙ s.entry i (omega arith)
+    ];
+    others = λ j out. get_or-set_other a k j v 0 (λ r. out (omega arith) (omega arith)) ∙ s.others j (λ r t. out r (omega arith));
+  }
 
 -- a row of eight: the first m are stored, and the others are 0
-pub fill-row : {n : ℕ} {f : ℕ → ℕ} {sides a b : List ℕ} {m r : ℕ} → Filled n f a (r * 8) → RowFilled sides m r a b → r * 8 + 8 ≤ n
-    → ((y : ℕ) → y < m → sides_together sides (r % 8) y ≡ f (r * 8 + y)) → ((j : ℕ) → r * 8 + m ≤ j → j < r * 8 + 8 → f j ≡ 0) → m ≤ 8
-    → Filled n f b ((r + 1) * 8)
-fill-row {f = f} {b = b} {m = m} {r = r} k row h same none few = record {
+pub fill-row : {n : ℕ} {f g : ℕ → ℕ} {a b : List ℕ} {m : ℕ} (r : ℕ) → Filled n f a (r * 8) → Stored g (r * 8) m a b → r * 8 + 8 ≤ n
+    → ((y : ℕ) → y < m → g y ≡ f (r * 8 + y)) → ((j : ℕ) → r * 8 + m ≤ j → j < r * 8 + 8 → f j ≡ 0) → m ≤ 8 → Filled n f b ((r + 1) * 8)
+fill-row {f = f} {b = b} {m = m} r k row h same none few = record {
   size = row.size ∙ k.size;
   upto = omega arith;
   done = λ j l. elim (dec_lt j (r * 8)) [
@@ -29,7 +45,7 @@ fill-row {f = f} {b = b} {m = m} {r = r} k row h same none few = record {
     inside j l u = elim (dec_lt j (r * 8 + m)) [
       | yes p ↦
           let e : j ≡ r * 8 + (j - r * 8) = omega arith in
-          rw e (row.row (j - r * 8) (omega arith) ∙ same (j - r * 8) (omega arith))
+          rw e (row.entry (j - r * 8) (omega arith) ∙ same (j - r * 8) (omega arith))
       | no p ↦ row.others j (λ a b. p b) ∙ k.left j l ∙ sym (none j (omega arith) u)
     ]
 

@@ -1,10 +1,8 @@
 -- The tables lie one after the other: each is filled in a part of the words or bytes, which is lent full of zeros and returned with the table.
-use Prim.Native.Nat.{ℕ, ◌+◌, ◌≤◌, ◌<◌}
-use native.Mathlib.Nat.{zero-lt-suc}
-use native.Mathlib.Omega.{arith}
-use mathlib.Core.Path.{◌≡◌, refl, sym, ap, ap₂, subst, ◌∙◌}
+use Prim.Native.Nat.{ℕ, ◌+◌}
+use mathlib.Core.Path.{◌≡◌, refl, sym, ap, ap₂, ◌∙◌}
 use mathlib.Core.List.{List, [], ◌∷◌, ◌++◌, append-nil, append_assoc}
-use lib.ListN.{length, take, drop, set, replicate, length-append, length-replicate, replicate-append-replicate}
+use lib.ListN.{length, take, drop, set, replicate, length-replicate, replicate-append-replicate}
 use lib.Seq.{take_at, drop_at}
 use Rattle.description.specs.Declarations.{Description}
 use Rattle.security.specs.Masks.{masks_of}
@@ -48,11 +46,6 @@ module _ (xs zs : List ℕ) (n m : ℕ) {s : List ℕ} (all : s ≡ xs ++ (zeros
   table-back : {vs ws : List ℕ} → vs ≡ ws → put n m s vs ≡ xs ++ (ws ++ zs)
   table-back e = part-back xs (zeros m) zs n m all front (zeros-size m) e
 
--- the length is enough for the front and the part
-enough : {s : List ℕ} (xs zs : List ℕ) (n m : ℕ) → s ≡ xs ++ (zeros m ++ zs) → length xs ≡ n → n + m ≤ length s
-enough xs zs n m all front =
-    omega (arith, ap length all, length-append xs (zeros m ++ zs), length-append (zeros m) zs, zeros-size m, front)
-
 -- ---- the words: what each block adds, and then the terms
 
 module _ (d : Description) {s : List ℕ} (lent : s ≡ replicate 2176 0) where
@@ -60,18 +53,9 @@ module _ (d : Description) {s : List ℕ} (lent : s ≡ replicate 2176 0) where
   unfolding zeros
   words-first = lent ∙ zeros-split 128 2048
 
-  pub own_room : 128 ≤ length s
-  own_room = enough [] (zeros 2048) 0 128 words-first refl
-
-  pub own-lent : take 128 (drop 0 s) ≡ replicate 128 0
-  own-lent = zeros-lent [] (zeros 2048) 0 128 words-first refl
-
   module _ {own : List ℕ} (o : own ≡ own_of d) where
     words-second : put 0 128 s own ≡ own_of d ++ (zeros 2048 ++ [])
     words-second = table-back [] (zeros 2048) 0 128 words-first refl o ∙ ap (λ (l : List ℕ). own_of d ++ l) (sym (append-nil (zeros 2048)))
-
-    pub terms-room : 2176 ≤ length (put 0 128 s own)
-    terms-room = enough (own_of d) [] 128 2048 words-second (own-size d)
 
     pub terms-lent : take 2048 (drop 128 (put 0 128 s own)) ≡ replicate 2048 0
     terms-lent = zeros-lent (own_of d) [] 128 2048 words-second (own-size d)
@@ -82,15 +66,6 @@ module _ (d : Description) {s : List ℕ} (lent : s ≡ replicate 2176 0) where
 -- ---- the conflicts: their number, and then the list
 
 module _ {s : List ℕ} (lent : s ≡ replicate 137 0) (vs : List ℕ) where
-  pub list-room : 137 ≤ length s
-  list-room = omega (arith, ap length lent, length-replicate {A = ℕ} 137 0)
-
-  pub list-part : take 136 (drop 1 s) ≡ replicate 136 0
-  list-part = ap (λ l. take 136 (drop 1 l)) lent
-
-  pub number-room : 0 < length (put 1 136 s vs)
-  number-room = subst (λ l. 0 < length (put 1 136 l vs)) (sym lent) (zero-lt-suc _)
-
   pub number-laid : (n : ℕ) → set (put 1 136 s vs) 0 n ≡ n ∷ vs
   number-laid n = ap (λ l. set (put 1 136 l vs) 0 n) lent ∙ ap (λ l. n ∷ l) (append-nil vs)
 
@@ -101,24 +76,12 @@ module _ (d : Description) {s : List ℕ} (lent : s ≡ replicate 394 0) where
   unfolding zeros
   bytes-first = lent ∙ zeros-split 64 330 ∙ ap (λ (l : List ℕ). zeros 64 ++ l) (zeros-split 17 313)
 
-  pub starts-room : 81 ≤ length s
-  starts-room = enough (zeros 64) (zeros 313) 64 17 bytes-first (zeros-size 64)
-
-  pub starts-lent : take 17 (drop 64 s) ≡ replicate 17 0
-  starts-lent = zeros-lent (zeros 64) (zeros 313) 64 17 bytes-first (zeros-size 64)
-
   module _ {starts : List ℕ} (a : starts ≡ starts_of d) where
     abbrev one : List ℕ
     one = put 64 17 s starts
 
     bytes-second : one ≡ [] ++ (zeros 64 ++ (starts_of d ++ zeros 313))
     bytes-second = table-back (zeros 64) (zeros 313) 64 17 bytes-first (zeros-size 64) a
-
-    pub ends-room : 64 ≤ length one
-    ends-room = enough [] (starts_of d ++ zeros 313) 0 64 bytes-second refl
-
-    pub ends-lent : take 64 (drop 0 one) ≡ replicate 64 0
-    ends-lent = zeros-lent [] (starts_of d ++ zeros 313) 0 64 bytes-second refl
 
     module _ {ends : List ℕ} (b : ends ≡ ends_of d) where
       abbrev two : List ℕ
@@ -130,12 +93,6 @@ module _ (d : Description) {s : List ℕ} (lent : s ≡ replicate 394 0) where
           table-back [] (starts_of d ++ zeros 313) 0 64 bytes-second refl b ∙ sym (append_assoc (ends_of d) (starts_of d) (zeros 313)) ∙
           ap (λ (l : List ℕ). ends_of d ++ starts_of d ++ l) (zeros-split 16 297)
 
-      pub masks-room : 97 ≤ length two
-      masks-room = enough (ends_of d ++ starts_of d) (zeros 297) 81 16 bytes-third (two_size d)
-
-      pub masks-lent : take 16 (drop 81 two) ≡ replicate 16 0
-      masks-lent = zeros-lent (ends_of d ++ starts_of d) (zeros 297) 81 16 bytes-third (two_size d)
-
       module _ {masks : List ℕ} (e : masks ≡ masks_of d) where
         abbrev three : List ℕ
         three = put 81 16 two masks
@@ -146,9 +103,6 @@ module _ (d : Description) {s : List ℕ} (lent : s ≡ replicate 394 0) where
             table-back (ends_of d ++ starts_of d) (zeros 297) 81 16 bytes-third (two_size d) e ∙
             sym (append_assoc (ends_of d ++ starts_of d) (masks_of d) (zeros 297)) ∙
             ap (λ (l : List ℕ). ends_of d ++ starts_of d ++ masks_of d ++ l) (zeros-split 32 265)
-
-        pub pairs-room : 129 ≤ length three
-        pairs-room = enough (ends_of d ++ starts_of d ++ masks_of d) (zeros 265) 97 32 bytes-fourth (three-size d)
 
         pub pairs-lent : take 32 (drop 97 three) ≡ replicate 32 0
         pairs-lent = zeros-lent (ends_of d ++ starts_of d ++ masks_of d) (zeros 265) 97 32 bytes-fourth (three-size d)
@@ -163,9 +117,6 @@ module _ (d : Description) {s : List ℕ} (lent : s ≡ replicate 394 0) where
               table-back (ends_of d ++ starts_of d ++ masks_of d) (zeros 265) 97 32 bytes-fourth (three-size d) f ∙
               sym (append_assoc (ends_of d ++ starts_of d ++ masks_of d) (pairs_of d) (zeros 265)) ∙
               ap (λ (l : List ℕ). ends_of d ++ starts_of d ++ masks_of d ++ pairs_of d ++ l) (zeros-split 137 128)
-
-          pub conflicts-room : 266 ≤ length four
-          conflicts-room = enough (ends_of d ++ starts_of d ++ masks_of d ++ pairs_of d) (zeros 128) 129 137 bytes-fifth (four-size d)
 
           pub conflicts-lent : take 137 (drop 129 four) ≡ replicate 137 0
           conflicts-lent = zeros-lent (ends_of d ++ starts_of d ++ masks_of d ++ pairs_of d) (zeros 128) 129 137 bytes-fifth (four-size d)

@@ -7,7 +7,6 @@ pub mod Exchanging
 pub mod Filling
 pub mod Groups
 pub mod Laying
-pub mod Noting
 pub mod Ordering
 pub mod Paired
 pub mod Places

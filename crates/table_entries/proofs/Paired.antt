@@ -63,14 +63,6 @@ module _ (a b : ℕ) (h : a ≡ 255 → ⊥) (k : b ≡ 255 → ⊥) where
   pub pair-second : of_pair a b 1 ≡ b
   pair-second = simp (ne_eqb a 255 h, ne_eqb b 255 k)
 
--- the first of a pair that is low
-first-low : (a b : ℕ) → of_pair a b 0 < 16 → a < 16
-first-low a b = go (eqb a 255 || eqb b 255)
-  where
-    go : (t : Bool) → cond t 255 a < 16 → a < 16
-    go true h = absurd (omega arith)
-    go false h = h
-
 -- both of a pair are low if the first is
 both-low : (n a b : ℕ) → (a ≡ 255) ⊎ (a < n) → (b ≡ 255) ⊎ (b < n) → of_pair a b 0 < 16 → (of_pair a b 0 < n) × (of_pair a b 1 < n)
 both-low n a b (inl p) h l = absurd (let e = ap (λ (t : Bool). cond (t || eqb b 255) 255 a) (eq-eqb a 255 p) in omega arith)

@@ -21,6 +21,14 @@ use Rattle.sequences.specs.Lists.{any, keep, below, before}
 use Rattle.visit.specs.Tables.{Tables, tables, masks_from, pairs_from, most_conflicts}
 use Rattle.weights.specs.Weights.{term_limit}
 
+-- ---- while a table is filled
+
+-- n entries from `at` on are those of f; all other entries are unchanged
+pub record Stored (f : ℕ → ℕ) (at n : ℕ) (before after : List ℕ) : Type 0 where
+  pub size : length after ≡ length before
+  pub entry : (i : ℕ) → i < n → get_or after (at + i) 0 ≡ f i
+  pub others : (j : ℕ) → (at ≤ j → j < at + n → ⊥) → get_or after j 0 ≡ get_or before j 0
+
 -- ---- blocks
 
 -- what each block is charged on each cloud
@@ -123,11 +131,11 @@ pub record Sides (d : Description) (e : Edge) (a : List ℕ) : Type 0 where
 abbrev pub sides_together : List ℕ → (x y : ℕ) → ℕ
 sides_together sides x y = cond (eqb x y) 0 (get_or sides x 0 + get_or sides (8 + y) 0)
 
--- row r, of eight entries, has the terms of the first m clouds; all other entries are unchanged
-pub record RowFilled (sides : List ℕ) (m r : ℕ) (before after : List ℕ) : Type 0 where
+-- the eight rows of the edge at place i have the terms of the first m clouds in the first n of them; all other entries are unchanged
+pub record EdgeFilled (sides : List ℕ) (n m i : ℕ) (before after : List ℕ) : Type 0 where
   pub size : length after ≡ length before
-  pub row : (y : ℕ) → y < m → get_or after (r * 8 + y) 0 ≡ sides_together sides (r % 8) y
-  pub others : (j : ℕ) → (r * 8 ≤ j → j < r * 8 + m → ⊥) → get_or after j 0 ≡ get_or before j 0
+  pub term : (x y : ℕ) → x < n → y < m → get_or after ((i * 8 + x) * 8 + y) 0 ≡ sides_together sides x y
+  pub others : (j : ℕ) → (j / 64 ≡ i → j / 8 % 8 < n → j % 8 < m → ⊥) → get_or after j 0 ≡ get_or before j 0
 
 -- both clouds of entry i are among the first m
 abbrev pub has_clouds : (m i : ℕ) → Bool
@@ -163,24 +171,12 @@ edges_of d way m = keep (is_of way m) d.edges
 abbrev pub only : Description → Way → ℕ → ℕ
 only d way m = only_of (edges_of d way m)
 
--- the same while edges are still to come: 0 if there was none, no service if there were several, otherwise the service plus 1
-abbrev pub noted : List Edge → ℕ
-noted [] = 0
-noted (e ∷ []) = e.service + 1
-noted (e ∷ f ∷ es) = no_service
-
-abbrev pub only_in : ℕ → ℕ
-only_in n = cond (eqb n 0 || eqb n no_service) no_service (n - 1)
-
 -- the first or the second of two numbers; no service if either of them is that
 abbrev pub of_pair : (a b : ℕ) → ℕ → ℕ
 of_pair a b zero = cond (eqb a no_service || eqb b no_service) no_service a
 of_pair a b (suc i) = cond (eqb a no_service || eqb b no_service) no_service b
 
--- for datum i / 2, by what is noted of its writers and its readers; and by the description
-abbrev pub pair_by : (writers readers : List ℕ) → ℕ → ℕ
-pair_by writers readers i = of_pair (only_in (get_or writers (i / 2) 0)) (only_in (get_or readers (i / 2) 0)) (i % 2)
-
+-- for datum i / 2
 abbrev pub pair_at : Description → ℕ → ℕ
 pair_at d i = of_pair (only d Writes (i / 2)) (only d Reads (i / 2)) (i % 2)
 
@@ -189,12 +185,11 @@ pairs_of d = table_to 32 (2 * length d.blocks) (pair_at d)
 
 -- ---- blocks that may not share a cloud
 
--- at n * 16 + u, 1 if block u is the service of an edge of datum n
-abbrev pub served_at : List Edge → ℕ → ℕ
-served_at es i = cond (any (serves (i / 16) (i % 16)) es) 1 0
-
-unfoldable pub served_of : Description → List ℕ
-served_of d = table 256 (served_at d.edges)
+-- at n, then u, whether block u is the service of one of these edges, of datum n
+pub record Served (es : List Edge) (a : List (List Bool)) : Type 0 where
+  pub size : length a ≡ 16
+  pub row_size : (n : ℕ) → n < 16 → length (get_or a n []) ≡ 16
+  pub marks : (n u : ℕ) → n < 16 → u < 16 → get_or (get_or a n []) u false ≡ any (serves n u) es
 
 -- blocks c / 16 and c % 16 conflict; of two blocks the later one is first, and a block may be in conflict with itself
 abbrev pub is_conflict : Description → ℕ → Bool
@@ -237,10 +232,6 @@ turned_of (Service clearance units) = 0
 
 abbrev pub deciding : Kind → (c e : Cloud) → ℕ
 deciding kind c e = cond (kept_longer kind) (storage_of c kind) (e.storage * turned_of kind)
-
--- with the storage of datum m taken from the words of the walk
-abbrev pub deciding_by : Description → (words : List ℕ) (longer : Bool) (quantity m on other : ℕ) → ℕ
-deciding_by d words longer quantity m on other = cond longer (get_or words (m * 8 + on) 0) ((cloud d other).storage * quantity)
 
 -- by a mask and by what decides: k is permitted, and the cost there, then k, is lower than that on h, then h
 abbrev pub better_as : (cost : (on other : ℕ) → ℕ) (mask h k : ℕ) → Bool

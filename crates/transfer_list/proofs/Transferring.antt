@@ -6,6 +6,7 @@ use native.Mathlib.Omega.{arith}
 use mathlib.Core.Path.{◌≡◌, refl, sym, ap, ap₂, ◌∙◌}
 use mathlib.Core.Bool.{Bool, true, false, cond}
 use mathlib.Core.List.{List, [], ◌∷◌, ◌++◌, map, append-nil, append_assoc}
+use Rattle.std.specs.List.{filter}
 use lib.ListN.{length, get_or, take, drop, length-append, take-append-drop, drop_of_length-le}
 use borrow.Author.Tests.{lt-ltb, le-ltb}
 use lib.Seq.{sets, sets-eq, length-sets, length-take-le, take_at, drop_at, drop-drop}
@@ -50,6 +51,21 @@ moved-one n p e h = simp h
 
 pub stayed-none : (n : ℕ) (p : List ℕ) (e : Edge) → moves p e ≡ false → length (transfers_from n p (e ∷ [])) ≡ 0
 stayed-none n p e h = simp h
+
+-- there is one for each edge that moves its datum
+counted-from : (n : ℕ) (p : List ℕ) (es : List Edge) → length (filter (moves p) es) ≡ length (transfers_from n p es)
+counted-from n p [] = refl
+counted-from n p (e ∷ es) = go (moves p e) (counted-from (suc n) p es)
+  where
+    go : (b : Bool) → length (filter (moves p) es) ≡ length (transfers_from (suc n) p es)
+        → length (cond b (e ∷ filter (moves p) es) (filter (moves p) es))
+        ≡ length (cond b (transfer_of n p e ∷ transfers_from (suc n) p es) (transfers_from (suc n) p es))
+    go true h = ap suc h
+    go false h = h
+
+pub transfers_counted : (d : Description) (p : List ℕ) → length (filter (moves p) d.edges) ≡ length (transfers d p)
+unfolding transfers
+transfers_counted d p = counted-from 0 p d.edges
 
 -- there are no more transfers than edges
 pub transfers-length : (n : ℕ) (p : List ℕ) (es : List Edge) → length (transfers_from n p es) ≤ length es
@@ -129,9 +145,9 @@ pub long-enough : (n : ℕ) (ts : List Transfer) → length (bytes_of ts) ≤ n 
 long-enough n ts h = simp (le-ltb _ _ h)
 
 -- a refusal leaves the buffer unchanged
-pub refused-leaves : (number place : ℕ) (buffer : List ℕ) → buffer_after (refused number place) buffer ≡ buffer
+pub refused_leaves : (number place : ℕ) (buffer : List ℕ) → buffer_after (refused number place) buffer ≡ buffer
 unfolding buffer_after
-refused-leaves number place buffer = refl
+refused_leaves number place buffer = refl
 
 -- a sum over transfers that does not depend on the edge's number is a sum over edges
 from-by-edge : (f : Transfer → ℕ) (p : List ℕ) → ((n : ℕ) (e : Edge) → f (transfer_of n p e) ≡ f (transfer_of 0 p e)) → (n : ℕ) (es : List Edge)

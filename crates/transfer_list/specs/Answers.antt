@@ -1,10 +1,10 @@
--- Transfers' answer as an enum: the scope's number and values for every case.
+-- Transfers' answer as a result of the definitions.
 use Rattle.std.specs.Prelude.{ℕ}
-use Rattle.transfer_list.specs.declared.Transferred.{Transferred}
-use Rattle.transfer_list.specs.declared.Transferred.TheVariants.{Count, Refused}
-use Rattle.sequences.specs.Results.{Result, ok, refused}
+use Rattle.std.specs.Prelude as std
+use Rattle.refusals.specs.declared.Refusal.{Refusal}
+use Rattle.refusals.specs.Refusals.{answered}
+use Rattle.sequences.specs.Results.{Result}
 
 -- how many, or a refusal with its number and place
-abbrev pub transfers_answer : Transferred → Result ℕ
-transfers_answer (Count n) = ok n
-transfers_answer (Refused r) = refused r.number r.place
+abbrev pub transfers_answer : std.Result ℕ Refusal → Result ℕ
+transfers_answer r = answered (λ n. n) r

@@ -4,89 +4,63 @@
 ghost use Rattle.std.specs.Prelude.{◌≡◌, not, ◌&&◌, cond, ltb, eqb};
 ghost use Rattle.sequences.specs.Bits.{bit};
 ghost use Rattle.sequences.specs.Lists.{first};
-ghost use Rattle.description.specs.Meaning.{describes};
-ghost use Rattle.security.specs.Answers.{found_in, breaks_rule, judge_answer};
-ghost use Rattle.security.specs.Masks.{masks_of};
-ghost use Rattle.security.specs.Soundness.{positions};
+ghost use Rattle.sequences.specs.Options.{given};
+ghost use Rattle.security.specs.Answers.{judge_answer};
+ghost use Rattle.security.specs.Soundness.{breaks3, breaks4, positions};
 ghost use Rattle.security.specs.Placements.{exposes, breaks16, breaks17, bad_position, judge};
 
 use apart::first_broken;
-use description::words::Words;
-use description::workflow::{
-    Edge, Refusal, block_at, block_count, cloud_at, edge_at, edge_count, is_write,
-};
+use description::workflow::{Description, Edge};
 use labels::covers;
 use placements::{cloud_of, moves};
-use security::answers::{Found, Rule, Verdict};
-use sequences::wide;
-use soundness::masks::{MASK_BITS, Masks, POSITIONS};
+use refusals::{Fault, Refusal};
+use security::answers::Verdict;
+use soundness::masks::{Choices, MASK_BITS, POSITIONS};
 use soundness::{breaks_rule3, breaks_rule4};
 
-// The numbers that a placement is refused with.
-const BAD_POSITION: u8 = 13;
+// The first edge that breaks rule 3.
+pub fn first_reading_up(w: &Description) -> Option<usize>
+    ensures { given result ≡ first (breaks3 w.now) w.now.edges }
+{
+    w.edges().iter().position(|e| breaks_rule3(w, *e))
+}
 
-const RULE_16: u8 = 14;
-
-const RULE_17: u8 = 15;
-
-const BROKEN_PAIR: u8 = 17;
+// The first edge that breaks rule 4.
+pub fn first_writing_down(w: &Description) -> Option<usize>
+    ensures { given result ≡ first (breaks4 w.now) w.now.edges }
+{
+    w.edges().iter().position(|e| breaks_rule4(w, *e))
+}
 
 // The edge makes a copy on a cloud whose label does not cover the datum's.
-fn exposes(w: &Words, placement: [u8; 16], e: Edge) -> bool
-    ensures { result ≡ exposes (describes w.now) placement e }
+#[tactic(auto, using(security::proofs::Equations::exposes_of))]
+fn exposes(w: &Description, placement: [u8; 16], e: Edge) -> bool
+    ensures { result ≡ exposes w.now placement e }
 {
     if !moves(placement, e) {
         return false;
     }
-    let cloud = cloud_at(w, wide(cloud_of(placement, wide(e.service))));
-    let datum = block_at(w, wide(e.datum));
+    let cloud = w.cloud_at(usize::from(cloud_of(placement, usize::from(e.service))));
+    let datum = w.block_at(usize::from(e.datum));
     !covers(cloud.label, datum.label)
 }
 
-fn breaks_rule16(w: &Words, placement: [u8; 16], e: Edge) -> bool
-    ensures { result ≡ breaks16 (describes w.now) placement e }
+// The first edge that breaks rule 16.
+pub fn first_exposing_read(w: &Description, placement: [u8; 16]) -> Option<usize>
+    ensures { given result ≡ first (breaks16 w.now placement) w.now.edges }
 {
-    let way = e.way;
-    if is_write(way) {
-        return false;
-    }
-    exposes(w, placement, e)
+    w.edges()
+        .iter()
+        .position(|e| !e.way.is_write() && exposes(w, placement, *e))
 }
 
-fn breaks_rule17(w: &Words, placement: [u8; 16], e: Edge) -> bool
-    ensures { result ≡ breaks17 (describes w.now) placement e }
+// The first edge that breaks rule 17.
+pub fn first_exposing_write(w: &Description, placement: [u8; 16]) -> Option<usize>
+    ensures { given result ≡ first (breaks17 w.now placement) w.now.edges }
 {
-    let way = e.way;
-    if !is_write(way) {
-        return false;
-    }
-    exposes(w, placement, e)
-}
-
-fn breaks(w: &Words, placement: [u8; 16], rule: Rule, e: Edge) -> bool
-    ensures { result ≡ breaks_rule rule (describes w.now) placement e }
-{
-    match rule {
-        Rule::Rule3 => breaks_rule3(w, e),
-        Rule::Rule4 => breaks_rule4(w, e),
-        Rule::Rule16 => breaks_rule16(w, placement, e),
-        Rule::Rule17 => breaks_rule17(w, placement, e),
-    }
-}
-
-// The first edge that breaks the rule. Rules 3 and 4 don't look at the placement.
-pub fn first_breaking(w: &Words, placement: [u8; 16], rule: Rule) -> Found
-    ensures { found_in result ≡ first (breaks_rule rule (describes w.now) placement) (describes w.now).edges }
-{
-    let n = edge_count(w);
-    let mut i = 0;
-    while i < n {
-        if breaks(w, placement, rule, edge_at(w, i)) {
-            return Found::At(i);
-        }
-        i += 1;
-    }
-    Found::Nothing
+    w.edges()
+        .iter()
+        .position(|e| e.way.is_write() && exposes(w, placement, *e))
 }
 
 // Position b has cloud k and may not have it: for a block, bit k of its byte m is not set; past the last of the n blocks, k is not 0. The
@@ -103,47 +77,34 @@ fn is_bad(n: usize, m: u8, b: usize, k: u8) -> bool
     (m >> k) % 2 != 1
 }
 
-fn first_bad_position(w: &Words, masks: &Masks, placement: [u8; 16]) -> Found
-    requires { masks.now ≡ masks_of (describes w.now) }
-    ensures { found_in result ≡ first (bad_position (describes w.now) placement) positions }
+fn first_bad_position(choices: &Choices<'_>, placement: [u8; 16]) -> Option<usize>
+    ensures { given result ≡ first (bad_position choices.now placement) positions }
 {
-    let n = block_count(w);
-    let mut b = 0;
-    while b < POSITIONS {
+    let n = choices.description().block_count();
+    let masks = choices.masks();
+    for b in 0..POSITIONS {
         if is_bad(n, masks[b], b, placement[b]) {
-            return Found::At(b);
+            return Some(b);
         }
-        b += 1;
     }
-    Found::Nothing
-}
-
-fn unfit(number: u8, place: usize) -> Verdict
-    ensures { result ≡ Verdict.Refused (record { number = number; place = place }) }
-{
-    Verdict::Refused(Refusal { number, place })
+    None
 }
 
 // Positions first, then rule 16, then rule 17, then the pairs.
-pub fn verdict(w: &Words, masks: &Masks, placement: [u8; 16]) -> Verdict
-    requires { masks.now ≡ masks_of (describes w.now) }
-    ensures { judge_answer result ≡ judge (describes w.now) placement }
+pub fn verdict(choices: &Choices<'_>, placement: [u8; 16]) -> Verdict
+    ensures { judge_answer result ≡ judge choices.now placement }
 {
-    let position = first_bad_position(w, masks, placement);
-    if let Found::At(b) = position {
-        return unfit(BAD_POSITION, b);
-    }
-    let read = first_breaking(w, placement, Rule::Rule16);
-    if let Found::At(n) = read {
-        return unfit(RULE_16, n);
-    }
-    let write = first_breaking(w, placement, Rule::Rule17);
-    if let Found::At(n) = write {
-        return unfit(RULE_17, n);
-    }
-    let pair = first_broken(w, placement);
-    if let Found::At(n) = pair {
-        return unfit(BROKEN_PAIR, n);
-    }
-    Verdict::Secure
+    let w = choices.description();
+    let (fault, place) = if let Some(b) = first_bad_position(choices, placement) {
+        (Fault::NoCandidate, b)
+    } else if let Some(n) = first_exposing_read(w, placement) {
+        (Fault::ReadExposes, n)
+    } else if let Some(n) = first_exposing_write(w, placement) {
+        (Fault::WriteExposes, n)
+    } else if let Some(n) = first_broken(w, placement) {
+        (Fault::PairMeets, n)
+    } else {
+        return Verdict::Secure;
+    };
+    Verdict::Refused(Refusal { fault, place })
 }

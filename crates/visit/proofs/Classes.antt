@@ -57,7 +57,7 @@ module _ (w : ℕ) (t : Tests) where
   is_row = is_unexposed w && passes t
 
   -- it is secure and passes the row test
-  row-secure : is_row ≡ (eqb (class_at w t) secure_class && t.stands)
+  pub row-secure : is_row ≡ (eqb (class_at w t) secure_class && t.stands)
   row-secure = sym (and_assoc (is_unexposed w) t.apart t.stands) ∙ ap (λ b. b && t.stands) (sym class-secure)
 
   pub no-row-broken : (class_at w t ≡ secure_class → ⊥) → is_row ≡ false

@@ -1,47 +1,21 @@
 -- A walk that draws keeps the first row past the floor: the same as a fold that keeps the better row.
-use Prim.Native.Nat.{ℕ, ◌≤◌, ◌<◌}
+use Prim.Native.Nat.{ℕ, ◌≤◌}
 use native.Mathlib.Omega.{arith}
 use mathlib.Core.Path.{◌≡◌, refl, sym, ap, ap₂, subst, ◌∙◌}
-use mathlib.Core.Bool.{Bool, true, false, not, ◌&&◌, cond, true≢false}
+use mathlib.Core.Bool.{Bool, true, false, not, ◌&&◌, cond, and-false, true≢false}
 use mathlib.Core.List.{List, [], ◌∷◌, foldl, Memᴰ}
 use mathlib.Core.Option.{Option, none, some}
-use lib.Dec.{eqb}
-use lib.ListN.{length, get_or, set}
-use lib.Seq.{get_or-set_same, get_or-set_other, lt-length-set}
 use borrow.Author.Tests.{ltb-true, ltb-false}
 use Rattle.sequences.specs.Draws.{better_if, beats}
 use Rattle.weights.specs.Weights.{cost_limit, is_unexposed}
+use Rattle.visit.specs.declared.Met.{Met}
+use Rattle.visit.specs.declared.draws.Draw.{Draw}
 use Rattle.visit.specs.Tables.{Tests}
-use Rattle.visit.specs.Visits.{counting_at, floor_cost_at, floor_place_at, best_cost_at, best_place_at, state_size, counting, earlier, wanted, passes, drawn, see}
-use Rattle.visit.proofs.Cases.{not_earlier, earlier-cost, no-better, see-draws}
-use Rattle.visit.proofs.Counters.{seeing, drawn-at, drawn-size}
+use Rattle.visit.specs.Visits.{earlier, wanted, passes, drawn}
+use Rattle.visit.proofs.Orders.{not_earlier, earlier-cost}
 
--- words that ask a walk to draw the first row that is not before a floor
-pub record Draws (floor floorplace : ℕ) (s : List ℕ) : Type 0 where
-  pub size : length s ≡ state_size
-  pub off : counting s ≡ false
-  pub floor_is : get_or s floor_cost_at 0 ≡ floor
-  pub place_is : get_or s floor_place_at 0 ≡ floorplace
-
--- drawing does not change that
-pub still-draws : {floor floorplace : ℕ} (w p : ℕ) (t : Tests) (s : List ℕ) → Draws floor floorplace s → Draws floor floorplace (see w p t s)
-still-draws w p t s a =
-    let at : (j : ℕ) → j < 8 → get_or (see w p t s) j 0 ≡ get_or s j 0 =
-    λ j h. ap (λ l. get_or l j 0) (see-draws w p t s a.off) ∙ drawn-at w p t s a.size j h in
-    record {
-      size = ap length (see-draws w p t s a.off) ∙ drawn-size w p t s a.size;
-      off = ap (λ n. eqb n 1) (at counting_at (omega arith)) ∙ a.off;
-      floor_is = at floor_cost_at (omega arith) ∙ a.floor_is;
-      place_is = at floor_place_at (omega arith) ∙ a.place_is;
-    }
-
--- the best row, put in
-best-in : (s : List ℕ) (w p : ℕ) → length s ≡ state_size
-    → (get_or (set (set s best_cost_at w) best_place_at p) best_cost_at 0 ≡ w) × (get_or (set (set s best_cost_at w) best_place_at p) best_place_at 0 ≡ p)
-best-in s w p size = (
-  get_or-set_other (set s best_cost_at w) best_place_at best_cost_at p 0 (λ z. omega arith) ∙ get_or-set_same s best_cost_at w 0 (omega (arith, size)),
-  get_or-set_same (set s best_cost_at w) best_place_at p 0 (lt-length-set s best_cost_at w (omega (arith, size))),
-)
+abbrev pub met : (weight place : ℕ) → Met
+met weight place = record { weight = weight; place = place }
 
 module _ {A R : Type 0} (test : R → R → Bool) (later : R → Bool) (row : A → R) (price : R → ℕ) (weight number : A → ℕ) (tests : A → Tests) (sec : A → Bool)
     (floor floorplace : ℕ) (all : List A) where
@@ -54,15 +28,18 @@ module _ {A R : Type 0} (test : R → R → Bool) (later : R → Bool) (row : A 
     pub later_is : (a : A) → Memᴰ a all → later (row a) ≡ not (earlier (price (row a)) (number a) floor floorplace)
 
   -- the best so far is this row, or none
-  abbrev pub Best : List ℕ → Option R → Type 0
-  Best s none = (get_or s best_cost_at 0 ≡ cost_limit) × (get_or s best_place_at 0 ≡ 0)
-  Best s (some r) = (a : A) × Memᴰ a all × (sec a ≡ true) × (row a ≡ r) × (get_or s best_cost_at 0 ≡ price (row a)) × (get_or s best_place_at 0 ≡ number a)
+  abbrev pub Best : Met → Option R → Type 0
+  Best b none = b ≡ met cost_limit 0
+  Best b (some r) = (a : A) × Memᴰ a all × (sec a ≡ true) × (row a ≡ r) × (b ≡ met (price (row a)) (number a))
 
-  pub record Kept (s : List ℕ) (o : Option R) : Type 0 where
-    pub asked : Draws floor floorplace s
-    pub best : Best s o
+  pub record Kept (d : Draw) (o : Option R) : Type 0 where
+    pub asked : d.floor ≡ met floor floorplace
+    pub best : Best d.best o
 
   module _ (fits : Fits) where
+    abbrev pub drawing : Draw → A → Draw
+    drawing d a = drawn (weight a) (number a) (tests a) d
+
     -- what the fold does with a placement
     abbrev takes : Option R → A → Bool
     takes o a = (sec a && passes (tests a)) && later (row a) && beats test (row a) o
@@ -71,38 +48,37 @@ module _ {A R : Type 0} (test : R → R → Bool) (later : R → Bool) (row : A 
     keeping = better_if test later (λ a. sec a && passes (tests a)) row
 
     -- if no edge breaks a rule, a placement is wanted exactly if it is past the cursor and beats what is kept
-    unexposed-wanted : (s : List ℕ) (o : Option R) → Kept s o → (a : A) → Memᴰ a all → sec a ≡ true
-        → wanted s (weight a) (number a) ≡ (later (row a) && beats test (row a) o)
-    unexposed-wanted s o k a m h = ap₂ ◌&&◌ past (first o k.best)
+    unexposed-wanted : (d : Draw) (o : Option R) → Kept d o → (a : A) → Memᴰ a all → sec a ≡ true
+        → wanted d (weight a) (number a) ≡ (later (row a) && beats test (row a) o)
+    unexposed-wanted d o k a m h = ap₂ ◌&&◌ past (first o k.best)
       where
-        past : not (earlier (weight a) (number a) (get_or s floor_cost_at 0) (get_or s floor_place_at 0)) ≡ later (row a)
-        past = rw (k.asked.floor_is, k.asked.place_is, fits.price_is a m h) (sym (fits.later_is a m))
+        past : not (earlier (weight a) (number a) d.floor.weight d.floor.place) ≡ later (row a)
+        past = rw (k.asked, fits.price_is a m h) (sym (fits.later_is a m))
 
-        first : (o : Option R) → Best s o → earlier (weight a) (number a) (get_or s best_cost_at 0) (get_or s best_place_at 0) ≡ beats test (row a) o
-        first none (e, f) =
-            earlier-cost (weight a) (number a) (get_or s best_cost_at 0) (get_or s best_place_at 0)
-            (omega (arith, e, ltb-true (weight a) cost_limit (fits.unexposed_is a m ∙ h)))
-        first (some r) (b, i, safe, same, cost, place) = (rw (cost, place, fits.price_is a m h) (sym (fits.order_is a b m i))) ∙ ap (test (row a)) same
-
-    -- the best costs no more than the limit of costs, and at the limit its place is 0
-    best-low : (s : List ℕ) (o : Option R) → Best s o → (get_or s best_cost_at 0 ≤ cost_limit) × (get_or s best_cost_at 0 ≡ cost_limit → get_or s best_place_at 0 ≡ 0)
-    best-low s none (e, f) = (omega (arith, e), λ z. f)
-    best-low s (some r) (b, i, safe, same, cost, place) =
-        let low : get_or s best_cost_at 0 < cost_limit =
-        omega (arith, cost, fits.price_is b i safe, ltb-true (weight b) cost_limit (fits.unexposed_is b i ∙ safe)) in
-        (omega arith, λ z. absurd (omega arith))
+        first : (o : Option R) → Best d.best o → earlier (weight a) (number a) d.best.weight d.best.place ≡ beats test (row a) o
+        first none e = rw e (earlier-cost (weight a) (number a) cost_limit 0 (ltb-true (weight a) cost_limit (fits.unexposed_is a m ∙ h)))
+        first (some r) (b, i, safe, same, e) = rw (e, fits.price_is a m h) (sym (fits.order_is a b m i)) ∙ ap (test (row a)) same
 
     -- a placement that breaks a rule weighs too much
-    broken-unwanted : (s : List ℕ) (o : Option R) → Kept s o → (a : A) → Memᴰ a all → sec a ≡ false → wanted s (weight a) (number a) ≡ false
-    broken-unwanted s o k a m h =
-        let heavy = ltb-false (weight a) cost_limit (fits.unexposed_is a m ∙ h) in
-        let (low, first) = best-low s o k.best in
-        no-better s (weight a) (number a) (not_earlier (weight a) (number a) (get_or s best_cost_at 0) (get_or s best_place_at 0)
-        (omega (arith, heavy, low)) (λ e. omega (arith, heavy, low, e, first (omega (arith, heavy, low, e)))))
+    broken-unwanted : (d : Draw) (o : Option R) → Kept d o → (a : A) → Memᴰ a all → sec a ≡ false → wanted d (weight a) (number a) ≡ false
+    broken-unwanted d o k a m h =
+        let past = not (earlier (weight a) (number a) d.floor.weight d.floor.place) in
+        ap (λ b. past && b) (first o k.best) ∙ and-false past
+      where
+        heavy : cost_limit ≤ weight a
+        heavy = ltb-false (weight a) cost_limit (fits.unexposed_is a m ∙ h)
+
+        first : (o : Option R) → Best d.best o → earlier (weight a) (number a) d.best.weight d.best.place ≡ false
+        first none e = rw e (not_earlier (weight a) (number a) cost_limit 0 heavy (λ z. omega arith))
+        first (some r) (b, i, safe, same, e) =
+            let heavy = heavy in
+            let light = ltb-true (weight b) cost_limit (fits.unexposed_is b i ∙ safe) in
+            let costs = fits.price_is b i safe in
+            rw e (not_earlier (weight a) (number a) (price (row b)) (number b) (omega arith) (λ z. omega arith))
 
     -- the walk takes what the fold takes
-    takes-is : (s : List ℕ) (o : Option R) → Kept s o → (a : A) → Memᴰ a all → (wanted s (weight a) (number a) && passes (tests a)) ≡ takes o a
-    takes-is s o k a m = go (sec a) refl
+    takes-is : (d : Draw) (o : Option R) → Kept d o → (a : A) → Memᴰ a all → (wanted d (weight a) (number a) && passes (tests a)) ≡ takes o a
+    takes-is d o k a m = go (sec a) refl
       where
         turn : (l b t : Bool) → ((l && b) && t) ≡ ((t && l) && b)
         turn true true true = refl
@@ -112,22 +88,16 @@ module _ {A R : Type 0} (test : R → R → Bool) (later : R → Bool) (row : A 
         turn false b true = refl
         turn false b false = refl
 
-        go : (x : Bool) → sec a ≡ x → (wanted s (weight a) (number a) && passes (tests a)) ≡ ((x && passes (tests a)) && later (row a) && beats test (row a) o)
-        go true h = ap (λ b. b && passes (tests a)) (unexposed-wanted s o k a m h) ∙ turn (later (row a)) (beats test (row a) o) (passes (tests a))
-        go false h = ap (λ b. b && passes (tests a)) (broken-unwanted s o k a m h)
+        go : (x : Bool) → sec a ≡ x → (wanted d (weight a) (number a) && passes (tests a)) ≡ ((x && passes (tests a)) && later (row a) && beats test (row a) o)
+        go true h = ap (λ b. b && passes (tests a)) (unexposed-wanted d o k a m h) ∙ turn (later (row a)) (beats test (row a) o) (passes (tests a))
+        go false h = ap (λ b. b && passes (tests a)) (broken-unwanted d o k a m h)
 
-    kept_step : (s : List ℕ) (o : Option R) → Kept s o → (a : A) → Memᴰ a all → Kept (seeing weight number tests s a) (keeping o a)
+    kept_step : (d : Draw) (o : Option R) → Kept d o → (a : A) → Memᴰ a all → Kept (drawing d a) (keeping o a)
     unfolding drawn
-    kept_step s o k a m = record {
-      asked = still-draws (weight a) (number a) (tests a) s k.asked;
-      best = subst (λ x. Best x (keeping o a)) (sym form) (go (takes o a) refl);
-    }
+    kept_step d o k a m = subst (λ x. Kept x (keeping o a)) (sym (ap put (takes-is d o k a m))) (go (takes o a) refl)
       where
-        put : Bool → List ℕ
-        put b = cond b (set (set s best_cost_at (weight a)) best_place_at (number a)) s
-
-        form : seeing weight number tests s a ≡ put (takes o a)
-        form = see-draws (weight a) (number a) (tests a) s k.asked.off ∙ ap put (takes-is s o k a m)
+        put : Bool → Draw
+        put b = cond b (record { floor = d.floor; best = met (weight a) (number a) }) d
 
         safe : takes o a ≡ true → sec a ≡ true
         safe e = first (sec a) e
@@ -136,16 +106,12 @@ module _ {A R : Type 0} (test : R → R → Bool) (later : R → Bool) (row : A 
             first true e = refl
             first false e = absurd (true≢false (sym e))
 
-        go : (b : Bool) → takes o a ≡ b → Best (put b) (cond b (some (row a)) o)
-        go true e =
-            let (cost, place) = best-in s (weight a) (number a) k.asked.size in
-            (a, m, safe e, refl, cost ∙ fits.price_is a m (safe e), place)
-        go false e = k.best
+        go : (b : Bool) → takes o a ≡ b → Kept (put b) (cond b (some (row a)) o)
+        go true e = record { asked = k.asked; best = (a, m, safe e, refl, ap (λ w. met w (number a)) (fits.price_is a m (safe e))) }
+        go false e = k
 
     -- the whole walk
-    pub kept-all : (l : List A) → ((a : A) → Memᴰ a l → Memᴰ a all) → (s : List ℕ) (o : Option R) → Kept s o
-        → Kept (foldl (seeing weight number tests) s l) (foldl keeping o l)
-    kept-all [] inside s o k = k
-    kept-all (a ∷ l) inside s o k =
-        kept-all l (λ b m. inside b (Memᴰ.tail m)) (seeing weight number tests s a) (keeping o a)
-        (kept_step s o k a (inside a (Memᴰ.head refl)))
+    pub kept-all : (l : List A) → ((a : A) → Memᴰ a l → Memᴰ a all) → (d : Draw) (o : Option R) → Kept d o → Kept (foldl drawing d l) (foldl keeping o l)
+    kept-all [] inside d o k = k
+    kept-all (a ∷ l) inside d o k =
+        kept-all l (λ b m. inside b (Memᴰ.tail m)) (drawing d a) (keeping o a) (kept_step d o k a (inside a (Memᴰ.head refl)))

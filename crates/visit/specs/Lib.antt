@@ -1,2 +1,4 @@
+pub mod Lent
+pub mod Laws
 pub mod Tables
 pub mod Visits

@@ -1,8 +1,7 @@
 -- Tables of a problem: what each block adds to a placement's weight on each cloud, what each edge adds, where blocks may stand, which of
 -- them may not share a cloud, and which data would do better on which cloud. They lie one after the other in lent words and lent bytes.
-use Rattle.std.specs.Prelude.{ℕ, ◌+◌, ◌-◌, ◌*◌, ◌/◌, ◌%◌, ◌≤◌, ◌<◌, ◌≡◌, Bool, false, not, cond, List, [], map, ltb, eqb, get_or}
+use Rattle.std.specs.Prelude.{ℕ, ◌+◌, ◌-◌, ◌*◌, ◌/◌, ◌%◌, ◌≤◌, ◌<◌, ◌≡◌, Bool, false, not, cond, List, map, ltb, eqb, get_or}
 use Rattle.std.proofs.Math.Option.{Option, none, some}
-use Rattle.packing.specs.Packing.{digits}
 use Rattle.weights.specs.Weights.{term_limit}
 use Rattle.sequences.specs.Bits.{bit, bit_choices}
 use Rattle.sequences.specs.Lists.{any, below, sum, other_end}
@@ -158,13 +157,3 @@ pub record Tests : Type 0 where
 
 abbrev pub tests_of : Tables → (n : ℕ) → List ℕ → Tests
 tests_of t n q = record { apart = apart t q; stands = stands t n q }
-
--- for a packed placement; they look at the bytes of the tables alone
-abbrev pub apart_in : (bytes : List ℕ) (n place : ℕ) → Bool
-apart_in bytes n place = apart (tables [] bytes) (digits n place)
-
-abbrev pub stands_in : (bytes : List ℕ) (n place : ℕ) → Bool
-stands_in bytes n place = stands (tables [] bytes) n (digits n place)
-
-abbrev pub tests_in : (bytes : List ℕ) (n place : ℕ) → Tests
-tests_in bytes n place = record { apart = apart_in bytes n place; stands = stands_in bytes n place }

@@ -1,37 +1,13 @@
--- What is done at a placement, in lent words. A walk either counts, or draws one row:
---   0 to 3   the placements of each class, while counting
---   4        the rows, while counting
--- 5        1 if the walk counts
---   6, 7     the floor of a draw, a cost and a packed placement: no row before it is wanted
---   8, 9     the best row so far, its cost and packed placement
-use Rattle.std.specs.Prelude.{ℕ, ◌+◌, ◌*◌, ◌^◌, ◌≡◌, Bool, not, ◌&&◌, ◌||◌, cond, List, ltb, leb, eqb, length, get_or, set}
-use Rattle.weights.specs.Weights.{is_unexposed, class_of, clash_class}
+-- What is done at a placement. A walk counts, or counts and keeps the rows, or draws one row.
+use Rattle.std.specs.Prelude.{ℕ, ◌+◌, ◌*◌, ◌^◌, Bool, not, ◌&&◌, ◌||◌, cond, Option, None, Some, List, ltb, leb, eqb, length, set}
+use Rattle.weights.specs.Weights.{cost_limit, is_unexposed, class_of, secure_class, clash_class}
 use Rattle.visit.specs.Tables.{Tests}
+use Rattle.visit.specs.declared.Met.{Met}
+use Rattle.visit.specs.declared.counts.Count.{Count}
+use Rattle.visit.specs.declared.counts.Keep.{Keep}
+use Rattle.visit.specs.declared.draws.Draw.{Draw}
 
-abbrev pub rows_at : ℕ
-rows_at = 4
-
-abbrev pub counting_at : ℕ
-counting_at = 5
-
-abbrev pub floor_cost_at : ℕ
-floor_cost_at = 6
-
-abbrev pub floor_place_at : ℕ
-floor_place_at = 7
-
-abbrev pub best_cost_at : ℕ
-best_cost_at = 8
-
-abbrev pub best_place_at : ℕ
-best_place_at = 9
-
--- how many words there are
-abbrev pub state_size : ℕ
-state_size = 10
-
-abbrev pub counting : List ℕ → Bool
-counting s = eqb (get_or s counting_at 0) 1
+-- ---- a walk that counts
 
 -- the counters are one for each class and one for the rows; the sum of all counts stays below a limit
 abbrev pub counter_count : ℕ
@@ -41,25 +17,26 @@ abbrev pub count_limit : ℕ
 count_limit = 2 ^ 60
 
 -- the sum of all counts
-abbrev pub tally : List ℕ → ℕ
-tally s = get_or s 0 0 + get_or s 1 0 + get_or s 2 0 + get_or s 3 0 + get_or s rows_at 0
+abbrev pub tally : Count → ℕ
+tally c = c.secure + c.breaks_first + c.breaks_second + c.clashes + c.rows
 
--- the words of a walk before it begins
-abbrev pub Fresh : List ℕ → Type 0
-Fresh s = (length s ≡ state_size) × (tally s ≡ 0)
+-- nothing is counted yet
+abbrev pub to_count : Count
+to_count = record { secure = 0; breaks_first = 0; breaks_second = 0; clashes = 0; rows = 0 }
 
--- (cost, place) comes before (cost', place')
-abbrev pub earlier : (cost place cost' place' : ℕ) → Bool
-earlier cost place cost' place' = ltb cost cost' || (eqb cost cost' && ltb place place')
+-- one if the test passes, none if it fails
+abbrev pub one : Bool → ℕ
+one b = cond b 1 0
 
--- the row is not before the floor, and comes before the best so far
-abbrev pub wanted : List ℕ → (cost place : ℕ) → Bool
-wanted s cost place =
-    not (earlier cost place (get_or s floor_cost_at 0) (get_or s floor_place_at 0)) && earlier cost place (get_or s best_cost_at 0) (get_or s best_place_at 0)
-
--- one more at k
-abbrev pub one_more : ℕ → List ℕ → List ℕ
-one_more k s = set s k (get_or s k 0 + 1)
+-- one more of class k
+abbrev pub one_more : (k : ℕ) → Count → Count
+one_more k c = record {
+  secure = c.secure + one (eqb k secure_class);
+  breaks_first = c.breaks_first + one (eqb k 1);
+  breaks_second = c.breaks_second + one (eqb k 2);
+  clashes = c.clashes + one (eqb k clash_class);
+  rows = c.rows;
+}
 
 -- the class of a placement: by its weight, and if no edge breaks a rule, by the blocks that may not share a cloud
 abbrev pub class_at : (weight : ℕ) → Tests → ℕ
@@ -70,22 +47,46 @@ abbrev pub passes : Tests → Bool
 passes t = t.apart && t.stands
 
 -- a placement is counted in its class, and if it is a row, among the rows
-unfoldable pub counted : (weight : ℕ) → Tests → List ℕ → List ℕ
-counted weight t s = cond (is_unexposed weight && passes t) (one_more rows_at (one_more (class_at weight t) s)) (one_more (class_at weight t) s)
+unfoldable pub counted : (weight place : ℕ) → Tests → Count → Count
+counted weight _ t c =
+    let classed = one_more (class_at weight t) c in
+    record classed { rows = c.rows + one (is_unexposed weight && passes t) }
 
--- It becomes the best row if it is wanted and passes the tests. If an edge breaks a rule, it weighs more than any best cost.
-unfoldable pub drawn : (weight place : ℕ) → Tests → List ℕ → List ℕ
-drawn weight place t s = cond (wanted s weight place && passes t) (set (set s best_cost_at weight) best_place_at place) s
-
--- one more placement, packed as `place`
-unfoldable pub see : (weight place : ℕ) → Tests → List ℕ → List ℕ
-see weight place t s = cond (counting s) (counted weight t s) (drawn weight place t s)
+-- ---- one that keeps the rows as well
 
 -- Rows in lent words, two words a row: the cost, then the packed placement. The words with one put in as row n, if they have room for it.
 unfoldable pub with_row : (n cost place : ℕ) → List ℕ → List ℕ
 with_row n cost place words = cond (leb (n * 2 + 2) (length words)) (set (set words (n * 2) cost) (n * 2 + 1) place) words
 
--- a walk that counts keeps each row after those that it met before
-unfoldable pub keep_row : (weight place : ℕ) → Tests → List ℕ → List ℕ → List ℕ
-keep_row weight place t s words =
-    cond (counting s && is_unexposed weight && passes t) (with_row (get_or s rows_at 0) weight place words) words
+-- each row is kept after those that were met before it
+unfoldable pub keep_row : (weight place : ℕ) → Tests → Count → List ℕ → List ℕ
+keep_row weight place t c words = cond (is_unexposed weight && passes t) (with_row c.rows weight place words) words
+
+-- a placement is counted, and if it is a row, it is kept
+abbrev pub kept : (weight place : ℕ) → Tests → Keep → Keep
+kept weight place t k = record {
+  count = counted weight place t k.count;
+  keys = record k.keys { now = keep_row weight place t k.count k.keys.now };
+}
+
+-- ---- one that draws
+
+-- (cost, place) comes before (cost', place')
+abbrev pub earlier : (cost place cost' place' : ℕ) → Bool
+earlier cost place cost' place' = ltb cost cost' || (eqb cost cost' && ltb place place')
+
+-- the row is not before the floor, and comes before the best so far
+abbrev pub wanted : Draw → (cost place : ℕ) → Bool
+wanted d cost place = not (earlier cost place d.floor.weight d.floor.place) && earlier cost place d.best.weight d.best.place
+
+-- asked for the first row that is not before a floor; so far there is none, and the best costs more than any row
+abbrev pub to_draw : (floor place : ℕ) → Draw
+to_draw floor place = record { floor = record { weight = floor; place = place }; best = record { weight = cost_limit; place = 0 } }
+
+-- It becomes the best row if it is wanted and passes the tests. If an edge breaks a rule, it weighs more than any best cost.
+unfoldable pub drawn : (weight place : ℕ) → Tests → Draw → Draw
+drawn weight place t d = cond (wanted d weight place && passes t) (record d { best = record { weight = weight; place = place } }) d
+
+-- the best row, if there is one
+abbrev pub found : Draw → Option Met
+found d = cond (eqb d.best.weight cost_limit) None (Some d.best)

@@ -1,3 +1,7 @@
+// The tables of a problem, as a walk is lent them.
+ghost use Rattle.std.specs.Prelude.{◌≤◌};
+ghost use Rattle.visit.specs.Tables.{Paired, tables};
+
 // The most blocks there can be.
 pub const MOST_BLOCKS: usize = 16;
 
@@ -25,3 +29,13 @@ pub const TABLE_BYTES: usize = 394;
 pub type TableWords = [u64; TABLE_WORDS];
 
 pub type TableBytes = [u8; TABLE_BYTES];
+
+// The tables of some blocks, filled.
+#[derive(Clone, Copy)]
+pub struct Tables<'a> {
+    pub words: &'a TableWords,
+    pub bytes: &'a TableBytes,
+    pub blocks: usize,
+    pub ghost few: { blocks ≤ 16 },
+    pub ghost paired: { Paired (tables words.now bytes.now) blocks },
+}

@@ -7,7 +7,9 @@ use lib.ListN.{length, length-append}
 use Rattle.sequences.specs.Bits.{set_bits}
 use Rattle.sequences.specs.Lists.{prefixed, sequences}
 use Rattle.visit.specs.Tables.{mask}
-use Rattle.walk.specs.Turning.{Setting, choices, completions, branches}
+use Rattle.visit.specs.declared.tables.Tables.{Tables}
+use Rattle.visit.specs.Lent.{table_in}
+use Rattle.walk.specs.Turning.{choices, completions, branches}
 
 module _ {A : Type 0} where
   prefixed-append : (rest : List (List A)) (xs ys : List A) → prefixed rest (xs ++ ys) ≡ prefixed rest xs ++ prefixed rest ys
@@ -20,7 +22,7 @@ module _ {A : Type 0} where
   behind q c [] = refl
   behind q c (r ∷ rest) = ap₂ ◌∷◌ (sym (append_assoc q (c ∷ []) r)) (behind q c rest)
 
-module _ (S : Setting) (n : ℕ) (q : List ℕ) where
+module _ (S : Tables) (n : ℕ) (q : List ℕ) where
   -- one more cloud
   pub branches-more : (done : List ℕ) (c : ℕ) → branches S n q (done ++ (c ∷ [])) ≡ branches S n q done ++ branches S n q (c ∷ [])
   unfolding branches
@@ -29,7 +31,7 @@ module _ (S : Setting) (n : ℕ) (q : List ℕ) where
       ap (map (λ p. q ++ p)) (prefixed-append rest done (c ∷ [])) ∙ map-append (λ p. q ++ p) (prefixed rest done) (prefixed rest (c ∷ []))
 
   -- the clouds whose bits are set in the next block's mask are all
-  pub branches-all : branches S n q (set_bits (mask S.table (length q))) ≡ completions S (suc n) q
+  pub branches-all : branches S n q (set_bits (mask (table_in S) (length q))) ≡ completions S (suc n) q
   unfolding branches completions
   branches-all = refl
 
@@ -44,10 +46,10 @@ map_same [] = refl
 map_same (x ∷ xs) = ap (λ l. x ∷ l) (map_same xs)
 
 -- below the empty prefix they are all sequences of choices
-pub completions-all : (S : Setting) (n : ℕ) → completions S n [] ≡ sequences (choices S 0 n)
+pub completions-all : (S : Tables) (n : ℕ) → completions S n [] ≡ sequences (choices S 0 n)
 unfolding completions
 completions-all S n = map_same (sequences (choices S 0 n))
 
-pub completions-none : (S : Setting) (q : List ℕ) → completions S 0 q ≡ q ∷ []
+pub completions-none : (S : Tables) (q : List ℕ) → completions S 0 q ≡ q ∷ []
 unfolding completions
 completions-none S q = ap (λ p. p ∷ []) (append-nil q)

@@ -2,134 +2,99 @@
 // it may stand, and the weight of the blocks so far is passed down.
 #![tactic(auto)]
 
-ghost use Rattle.std.specs.Prelude.{◌+◌, ◌-◌, ◌*◌, ◌^◌, ◌<◌, ◌≡◌, ◌∷◌, length};
-ghost use Rattle.std.specs.Int.Count.{count_trailing_zeros};
-ghost use Rattle.sequences.specs.Bits.{set_bits};
-ghost use Rattle.visit.specs.Tables.{Ready, tables, start};
-ghost use Rattle.visit.specs.Visits.{state_size, Fresh};
-ghost use Rattle.walk.specs.Turning.{setting, Carried, Within, Room, Under, WalkedBelow, Turned};
-ghost use Rattle.walk.specs.Walking.{see_all, keep_all};
+ghost use Rattle.std.specs.Prelude.{◌+◌, ◌-◌, ◌*◌, ◌^◌, ◌<◌, ◌≡◌};
+ghost use Rattle.visit.specs.Lent.{table_in};
+ghost use Rattle.visit.specs.Tables.{Ready};
+ghost use Rattle.walk.specs.Turning.{Carried, Loaded, Room, Under, WalkedBelow, Turned};
+ghost use Rattle.walk.specs.Walking.{see_all};
 
-use sequences::wide;
-use visit::tables::{MASKS, STARTS, TERMS, TableBytes, TableWords};
-use visit::{State, meet};
+mod set_bits;
 
-// The weight with block `at` on cloud c as well. Its edges are those from lo to below hi.
-fn step(
-    words: &TableWords,
-    bytes: &TableBytes,
+use set_bits::SetBits;
+use visit::tables::{MASKS, STARTS, TERMS, Tables};
+use visit::{Met, Visitor};
+
+// A block whose turn it is: its number, and its edges, from lo to below hi. What its turns share is loaded once: after a turn's stores to
+// the visitor the compiler would load it again.
+#[derive(Clone, Copy)]
+struct Block {
     at: usize,
-    weight: u64,
-    place: u64,
-    c: u64,
     lo: usize,
     hi: usize,
-) -> u64
-    requires c_bound { (c < 8) × (place < 8 ^ at) }
-    requires within { Within (tables words.now bytes.now) at }
-    requires carried { Carried (tables words.now bytes.now) at place weight }
-    requires lo_value { (lo ≡ start (tables words.now bytes.now) at) × (hi ≡ start (tables words.now bytes.now) (at + 1)) }
-    ensures { Carried (tables words.now bytes.now) (at + 1) (place * 8 + c) result }
-{
-    let x = c as usize;
-    let all = place * 8 + c;
-    let mut sum = weight + words[at * 8 + x];
-    for e in lo..hi {
-        let shift = wide(bytes[2 * e + 1]);
-        let y = ((all >> shift) % 8) as usize;
-        sum = sum + words[TERMS + (e * 64 + x * 8 + y)];
-    }
-    sum
 }
 
-// The set bits of a mask except the lowest.
-fn without_lowest(rest: usize) -> usize
-    requires { (0 < rest) × (rest < 256) }
-    ensures rest_value { set_bits rest ≡ count_trailing_zeros 64 rest ∷ set_bits result }
-    ensures upper_bound { result < rest }
+// The placement with the block on cloud c as well.
+fn step(tables: &Tables<'_>, block: Block, met: Met, c: u64) -> Met
+    requires ready { Ready (table_in tables.now) tables.now.blocks }
+    requires c_bound { (c < 8) × (met.place < 8 ^ block.at) }
+    requires loaded { Loaded tables.now block.at block }
+    requires carried { Carried tables.now block.at met }
+    ensures place { result.place ≡ met.place * 8 + c }
+    ensures carried { Carried tables.now (block.at + 1) result }
 {
-    rest & (rest - 1)
+    let x = c as usize;
+    let place = met.place * 8 + c;
+    let mut weight = met.weight + tables.words[block.at * 8 + x];
+    for e in block.lo..block.hi {
+        let shift = usize::from(tables.bytes[2 * e + 1]);
+        let y = ((place >> shift) % 8) as usize;
+        weight += tables.words[TERMS + (e * 64 + x * 8 + y)];
+    }
+    Met { weight, place }
 }
 
 // Meets the placements below a prefix, whose last `left` blocks have no cloud yet. It goes from set bit to set bit of the next block's mask.
-// What the turns of that block share is loaded once: after a turn's stores to `state` the compiler would load it again.
 #[cycle(turn_walk)]
-fn walk(
-    words: &TableWords,
-    bytes: &TableBytes,
-    blocks: usize,
-    left: usize,
-    weight: u64,
-    place: u64,
-    state: &mut State,
-    kept: &mut [u64],
-)
-    requires state_len { length state.old ≡ state_size }
-    requires under { Under (setting words.now bytes.now blocks) (blocks - left) left weight place }
-    requires left_nonzero { (0 < left) × Room left state.old }
-    ensures state_len_2 { length state.new ≡ state_size }
-    ensures walked_below { WalkedBelow
-        (setting words.now bytes.now blocks)
-        (state.old, kept.old) (blocks - left) left place (state.new, kept.new) }
+fn walk<V: Visitor>(tables: &Tables<'_>, left: usize, met: Met, visitor: &mut V)
+    requires under { Under tables.now (tables.now.blocks - left) left met }
+    requires room { (0 < left) × Room left (V.tally visitor.old) }
+    ensures { WalkedBelow tables.now V.see V.tally visitor.old (tables.now.blocks - left) left met.place visitor.new }
 {
-    let at = blocks - left;
-    let lo = wide(bytes[STARTS + at]);
-    let hi = wide(bytes[STARTS + (at + 1)]);
-    let mut rest = wide(bytes[MASKS + at]);
-    while rest != 0 {
-        let c = usize::trailing_zeros(rest) as u64;
-        turn(
-            words, bytes, blocks, left, weight, place, c, lo, hi, state, kept,
-        );
-        rest = without_lowest(rest);
+    let at = tables.blocks - left;
+    let lo = usize::from(tables.bytes[STARTS + at]);
+    let hi = usize::from(tables.bytes[STARTS + (at + 1)]);
+    let block = Block { at, lo, hi };
+    for c in SetBits::new(tables.bytes[MASKS + at]) {
+        turn(tables, left, block, met, c, visitor);
     }
 }
 
 // Meets those of them whose next block is on cloud c.
 #[cycle(turn_walk)]
-fn turn(
-    words: &TableWords,
-    bytes: &TableBytes,
-    blocks: usize,
+fn turn<V: Visitor>(
+    tables: &Tables<'_>,
     left: usize,
-    weight: u64,
-    place: u64,
+    block: Block,
+    met: Met,
     c: u64,
-    lo: usize,
-    hi: usize,
-    state: &mut State,
-    kept: &mut [u64],
+    visitor: &mut V,
 )
-    requires state_len { length state.old ≡ state_size }
-    requires under { Under (setting words.now bytes.now blocks) (blocks - left) left weight place }
-    requires left_nonzero { (0 < left) × (c < 8) × Room (left - 1) state.old }
-    requires lo_value { (lo ≡ start (tables words.now bytes.now) (blocks - left)) × (hi ≡ start (tables words.now bytes.now) (blocks - left + 1)) }
-    ensures state_len_2 { length state.new ≡ state_size }
-    ensures turned { Turned
-        (setting words.now bytes.now blocks)
-        (state.old, kept.old) (blocks - left) (left - 1) place c (state.new, kept.new) }
+    requires under { Under tables.now (tables.now.blocks - left) left met }
+    requires room { (0 < left) × (c < 8) × Room (left - 1) (V.tally visitor.old) }
+    requires loaded { Loaded tables.now (tables.now.blocks - left) block }
+    ensures { Turned tables.now V.see V.tally visitor.old (tables.now.blocks - left) (left - 1) met.place c visitor.new }
 {
-    let more = step(words, bytes, blocks - left, weight, place, c, lo, hi);
-    let next = place * 8 + c;
+    let next = step(tables, block, met, c);
     if left == 1 {
-        meet(bytes, blocks, more, next, state, kept);
+        visitor.meet(tables, next);
         return;
     }
-    walk(words, bytes, blocks, left - 1, more, next, state, kept);
+    walk(tables, left - 1, next, visitor);
 }
 
 // Meets every placement of the blocks.
-pub fn walk_all(
-    words: &TableWords,
-    bytes: &TableBytes,
-    blocks: usize,
-    state: &mut State,
-    kept: &mut [u64],
-)
-    requires fresh { Fresh state.old }
-    requires ready { Ready (tables words.now bytes.now) blocks }
-    ensures state_after { state.new ≡ see_all (tables words.now bytes.now) blocks state.old }
-    ensures kept_after { kept.new ≡ keep_all (tables words.now bytes.now) blocks state.old kept.old }
+pub fn walk_all<V: Visitor>(tables: &Tables<'_>, visitor: &mut V)
+    requires fresh { V.tally visitor.old ≡ 0 }
+    requires ready { Ready (table_in tables.now) tables.now.blocks }
+    ensures { visitor.new ≡ see_all V.see (table_in tables.now) tables.now.blocks visitor.old }
 {
-    walk(words, bytes, blocks, blocks, 0, 0, state, kept);
+    walk(
+        tables,
+        tables.blocks,
+        Met {
+            weight: 0,
+            place: 0,
+        },
+        visitor,
+    );
 }

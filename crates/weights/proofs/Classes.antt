@@ -5,7 +5,10 @@ use mathlib.Core.Path.{◌≡◌, refl}
 use mathlib.Core.Bool.{Bool, true, false, cond}
 use lib.Dec.{eqb}
 use borrow.Author.Tests.{lt-ltb, le-ltb, eq-eqb, ne_eqb}
-use Rattle.weights.specs.Weights.{cost_limit, radix, clash_class, is_unexposed, class_of}
+use Rattle.weights.specs.Numbers.{class_number}
+use Rattle.weights.specs.Weights.{cost_limit, radix, secure_class, clash_class, is_unexposed, class_of}
+use Rattle.weights.specs.declared.Class.{Class}
+use Rattle.weights.specs.declared.Class.TheVariants.{Secure, BreaksFirst, BreaksSecond, Clashes}
 
 module _ (w : ℕ) where
   pub class-light : w < cost_limit → class_of w ≡ 0
@@ -39,3 +42,10 @@ module _ (w : ℕ) where
       go true b = omega arith
       go false true = omega arith
       go false false = omega arith
+
+-- only the first class has number 0
+pub secure-number : (k : Class) → class_number k ≡ secure_class → k ≡ Secure
+secure-number Secure e = refl
+secure-number BreaksFirst e = absurd (omega arith)
+secure-number BreaksSecond e = absurd (omega arith)
+secure-number Clashes e = absurd (omega arith)

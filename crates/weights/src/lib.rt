@@ -1,8 +1,9 @@
 // A placement's cost and what it breaks, in one number: its weight. The numbers are named here for all code.
 #![tactic(auto)]
 
-ghost use Rattle.std.specs.Prelude.{◌≡◌, ◌<◌};
-ghost use Rattle.weights.specs.Weights.{classes, class_of};
+ghost use Rattle.std.specs.Prelude.{◌≡◌};
+ghost use Rattle.weights.specs.Numbers.{class_number};
+ghost use Rattle.weights.specs.Weights.{class_of};
 
 // 2^53, which is above every cost.
 pub const COST_LIMIT: u64 = 9007199254740992;
@@ -15,27 +16,25 @@ pub const FIRST_PENALTY: u64 = COST_LIMIT;
 
 pub const SECOND_PENALTY: u64 = 297237575406452736;
 
-// The classes of placements, and their number. The weight does not show the last one: such placements break what no single edge decides.
-pub const SECURE: usize = 0;
-
-pub const BREAKS_FIRST: usize = 1;
-
-pub const BREAKS_SECOND: usize = 2;
-
-pub const CLASHES: usize = 3;
-
-pub const CLASSES: usize = 4;
+// The kinds of placements that are counted. The weight does not show the last one: such placements break what no single edge decides.
+#[derive(Clone, Copy, Debug, PartialEq, Eq)]
+pub enum Class {
+    Secure,
+    BreaksFirst,
+    BreaksSecond,
+    Clashes,
+}
 
 // The class of a placement, by its weight alone.
 #[tactic(auto, unfolding(crate::specs::Weights::class_of))]
-pub fn class_of(weight: u64) -> usize
-    ensures { (result ≡ class_of weight) × (result < classes) }
+pub fn class_of(weight: u64) -> Class
+    ensures { class_number result ≡ class_of weight }
 {
     if weight < COST_LIMIT {
-        return SECURE;
+        return Class::Secure;
     }
     if weight / COST_LIMIT % RADIX == 0 {
-        return BREAKS_SECOND;
+        return Class::BreaksSecond;
     }
-    BREAKS_FIRST
+    Class::BreaksFirst
 }

@@ -1,5 +1,8 @@
 -- The whole list: the rows of a description as words in lent memory, and what the call answers.
 use Rattle.std.specs.Prelude.{ℕ, ◌*◌, ◌/◌, min, cond, List, [], ◌∷◌, ◌++◌, map, leb, length, drop, replicate}
+use Rattle.std.specs.Prelude as std
+use Rattle.refusals.specs.declared.Refusal.{Refusal}
+use Rattle.refusals.specs.Refusals.{answered}
 use Rattle.description.specs.Declarations.{Description}
 use Rattle.security.specs.Soundness.{read}
 use Rattle.survey.specs.declared.Row.{Row}
@@ -7,8 +10,7 @@ use Rattle.survey.specs.Rows.{rows}
 use Rattle.survey.specs.RowWords.{row_key, keys_needed}
 use Rattle.sequences.specs.Lists.{joined}
 use Rattle.sequences.specs.Results.{Result, ok, refused, and_then}
-use Rattle.whole_list.specs.declared.Listed.{Listed}
-use Rattle.whole_list.specs.declared.Listed.TheVariants.{Rows, Refused}
+use Rattle.whole_list.specs.declared.Extent.{Extent}
 
 -- the words of a row, and those of its key
 abbrev pub words_of_row : ℕ
@@ -37,9 +39,8 @@ abbrev pub capacity : (rows scratch : ℕ) → ℕ
 capacity rows scratch = min (rows / words_of_row) (scratch / words_of_key)
 
 -- List: how many rows there are and how many blocks a row has, or a refusal with its number and place
-abbrev pub list_answer : Listed → Result (ℕ × ℕ)
-list_answer (Rows e) = ok (e.rows, e.blocks)
-list_answer (Refused r) = refused r.number r.place
+abbrev pub list_answer : std.Result Extent Refusal → Result (ℕ × ℕ)
+list_answer r = answered (λ e. (e.rows, e.blocks)) r
 
 -- More rows than there is room for are refused as a short buffer is: with number 16, and the words that the rows need as the place.
 abbrev pub listed_in : Description → (room : ℕ) → Result (ℕ × ℕ)

@@ -1,17 +1,12 @@
--- The sum so far and the sum from edge i on make the whole.
-use Rattle.std.proofs.Common.{ℕ, ◌≡◌, ◌+◌, ◌-◌, ◌*◌, ◌≤◌, map, length, drop}
-use Rattle.description.specs.declared.workflow.Edge.{Edge}
-use Rattle.description.specs.Meaning.{describes}
+-- The sum so far and that of the edges from this one on make the whole.
+use Rattle.std.proofs.Common.{◌≡◌, ◌+◌, ◌*◌, ◌≤◌, map, drop}
 use Rattle.costs.specs.Cost.{edge_cost}
 use Rattle.sequences.specs.Lists.{sum}
 use Rattle.billing.specs.Charges.{most_edge}
 use Rattle.billing.proofs.edges_cost.Given as goal
 
-abbrev pub invariant-loop-i : goal.invariant-loop-i
-invariant-loop-i l =
-    let es = (describes l.w).edges in
-    let own : Edge → ℕ = edge_cost (describes l.w) l.placement in
-    (l.i ≤ l.n) × (l.n ≡ length es) × (l.n ≤ 32) × (l.total ≤ l.i * most_edge) × (sum (map own es) ≡ l.total + sum (map own (drop l.i es)))
-
-abbrev pub decreases-loop-i : goal.decreases-loop-i
-decreases-loop-i l = l.n - l.i
+abbrev pub invariant-loop-e : goal.invariant-loop-e
+invariant-loop-e l = record {
+  made : l.total + sum (map (edge_cost l.w l.placement) (drop l.e-index l.w.edges)) ≡ sum (map (edge_cost l.w l.placement) l.w.edges);
+  few : l.total ≤ l.e-index * most_edge;
+}

@@ -1,18 +1,28 @@
 -- What was read is all that the reader had, or as much as decides what is printed.
-use Rattle.std.proofs.Common.{◌∙◌}
+use Rattle.std.proofs.Common.{◌≡◌, ◌∙◌, arith, Ok}
 use Rattle.std.specs.Io.KnownBytes.{Appends}
+use Rattle.std.proofs.lemmas.Result.{err_from_is_err_and}
 use Rattle.standard_input.specs.Failures.{BreaksOff}
-use Rattle.listoptions.proofs.Printing.{read-decides, with-error}
+use Rattle.standard_input.proofs.Outcomes.{on_ok, on_err}
+use Rattle.listoptions.proofs.Printing.{read-decides}
 use Rattle.listoptions.proofs.list_input.Goals as goal
 
-pub returns-in-None-clause-bytes : goal.returns-in-None-clause-bytes
-returns-in-None-clause-bytes g c =
-    let read = c.in-Bytes.ensures in
-    read-decides (Appends _ _) _ _ c.read_full.new.buffer c.in-Bytes.count (c.read_full.auto.buffer ∙ c.space-space.ensures) read.counted.0
-    read.taken.0 read.taken.1 (c.write_list-sent.ensures.taken c.in-None.is)
+pub returns-clause-bytes : goal.returns-clause-bytes
+returns-clause-bytes g c =
+    let read = c.read_full in
+    let came : read.result ≡ Ok c.in_ok-count.count = grind arith in
+    let counted = rw came at read.ensures.counted in
+    let taken = rw came at read.ensures.taken in
+    read-decides (Appends _ _) _ _ read.new.buffer c.in_ok-count.count (read.auto.buffer ∙ c.filled-space.ensures.size) counted.0
+    taken.0 taken.1 (on_ok c.write_list.result c.in_ok-map_err.ensures.variant c.write_list.ensures.taken)
 
-pub returns-in-Some-clause-broken : goal.returns-in-Some-clause-broken
-returns-in-Some-clause-broken g c output =
-    let read = c.in-Bytes.ensures in
-    read-decides (BreaksOff _ _) _ _ c.read_full.new.buffer c.in-Bytes.count (c.read_full.auto.buffer ∙ c.space-space.ensures) read.counted.0
-    read.taken.0 read.taken.1 (with-error _ c.write_list-sent.result.failed c.in-Some.error c.write_list-sent.ensures.broken c.in-Some.is)
+pub returns-in_err-map_err-clause-broken : goal.returns-in_err-map_err-clause-broken
+returns-in_err-map_err-clause-broken g c =
+    let read = c.read_full in
+    let came : read.result ≡ Ok c.in_ok-count.count = grind arith in
+    let counted = rw came at read.ensures.counted in
+    let taken = rw came at read.ensures.taken in
+    let error = err_from_is_err_and c.from_residual-in_err-map_err.result c.from_residual-in_err-map_err.ensures.1 in
+    rw error.1
+    (λ output. read-decides (BreaksOff _ _) _ _ read.new.buffer c.in_ok-count.count (read.auto.buffer ∙ c.filled-space.ensures.size) counted.0
+    taken.0 taken.1 (on_err c.write_list.result c.in_err-map_err.ensures.variant c.write_list.ensures.broken))

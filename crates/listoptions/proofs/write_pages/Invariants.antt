@@ -1,18 +1,14 @@
--- Page by page: the lines of the pages before the next one were handed over.
-use Rattle.std.proofs.Common.{◌-◌, ◌*◌, ◌≤◌, ◌≡◌, length, take, None}
-use Rattle.std.specs.Io.KnownBytes.{Appends}
-use Rattle.listoptions.specs.Making.{held_bytes, page_rows, lines_in}
+-- Page by page: the lines of the rows before those that are left were handed over. Each page that is left takes no more than its bytes.
+use Rattle.std.proofs.Common.{◌+◌, ◌*◌, ◌/◌, ◌≤◌, ◌≡◌, length}
+use Rattle.std.specs.Slice.Iter.{chunks_rest, chunks_size}
+use Rattle.listoptions.specs.Making.{held_bytes, page_words}
+use Rattle.listoptions.proofs.Printing.{Handed}
 use Rattle.listoptions.proofs.write_pages.Given as goal
 
 abbrev pub invariant-loop-page : goal.invariant-loop-page
 invariant-loop-page g l = record {
-  pages : l.page ≤ 64;
+  pages : chunks_size l.page-iterator ≡ page_words;
   size : length l.text ≡ held_bytes;
-  bound : l.sent.bytes ≤ l.page * held_bytes;
-  whole : l.sent.failed ≡ None;
-  bytes : l.sent.bytes ≡ length (lines_in l.blocks (take (l.page * page_rows * 5) l.rows));
-  taken : Appends (g.W.Write.contents l.initial.out) (g.W.Write.contents l.out) (lines_in l.blocks (take (l.page * page_rows * 5) l.rows));
+  bound : l.sent + (length (chunks_rest l.page-iterator) + 5119) / 5120 * held_bytes ≤ 64 * held_bytes;
+  handed : Handed l.blocks l.rows (chunks_rest l.page-iterator) l.sent (g.W.Write.contents l.initial.out) (g.W.Write.contents l.out);
 }
-
-abbrev pub decreases-loop-page : goal.decreases-loop-page
-decreases-loop-page g l = 64 - l.page

@@ -8,13 +8,12 @@ use Rattle.packing.proofs.unpacked.Goals as goal
 pub loop-b-preserved : goal.loop-b-preserved
 loop-b-preserved c =
     let a = c.args in
-    let l = c.loop-b in
     let n = digits-length a.blocks a.place in
-    (omega arith, rw (l.invariant.1, c.cloud_in.ensures.0) (fill-next (digits a.blocks a.place) l.b (omega arith) (omega arith)))
+    rw (c.loop-b.invariant, c.cloud_in.ensures.0) (fill-next (digits a.blocks a.place) c.loop-b.b (omega arith) (omega arith))
 
 pub returns : goal.returns
 returns c =
     let a = c.args in
     let n = digits-length a.blocks a.place in
     let e : c.loop-b.b ≡ a.blocks = omega arith in
-    (rw e at c.loop-b.invariant.1) ∙ ap (λ d. d ++ replicate (16 - a.blocks) 0) (take_all a.blocks (digits a.blocks a.place) (omega arith))
+    (rw e at c.loop-b.invariant) ∙ ap (λ d. d ++ replicate (16 - a.blocks) 0) (take_all a.blocks (digits a.blocks a.place) (omega arith))

@@ -18,8 +18,8 @@ pub loop-done-preserved : goal.loop-done-preserved
 loop-done-preserved g c =
     let done = c.loop-done.done in
     let within = c.loop-done.invariant.in_bounds in
-    let part = after_part done (length c.loop-done.buffer - done) c.in-Ok.more c.loop-done.buffer c.read.new.buf within c.in-Ok.ensures.bound.0 in
+    let part = after_part done (length c.loop-done.buffer - done) c.in_ok-more.more c.loop-done.buffer c.read.new.buf within c.in_ok-more.ensures.bound.0 in
     record {
-      in_bounds = omega (arith, c.in-Ok.ensures.bound.0);
-      taken = subst (Consumes _ _) (sym part) (Consumes-trans _ _ _ _ _ c.loop-done.invariant.taken c.in-Ok.ensures.bytes.0);
+      in_bounds = omega (arith, c.in_ok-more.ensures.bound.0);
+      taken = subst (Consumes _ _) (sym part) (Consumes-trans _ _ _ _ _ c.loop-done.invariant.taken c.in_ok-more.ensures.bytes.0);
     }

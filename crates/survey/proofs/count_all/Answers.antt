@@ -1,20 +1,16 @@
 -- A walk that counts sees the census.
 use Rattle.std.proofs.Common.{ap, ◌∙◌}
-use Rattle.description.specs.Meaning.{describes}
+use mathlib.Core.Path.{sym, subst}
+use Rattle.security.specs.Soundness.{count}
+use Rattle.visit.specs.Visits.{counted}
 use Rattle.survey.specs.Surveys.{seen_of}
-use Rattle.survey.proofs.Joins.{starts, census-is, counted-by}
+use Rattle.survey.proofs.Joins.{Sees, census-is, counted-by}
 use Rattle.survey.proofs.count_all.Goals as goal
-
-pub walk_candidates-requires : goal.walk_candidates-requires
-walk_candidates-requires c = record {
-  admitted = c.requires.admitted;
-  candidates_value = c.requires.candidates_value;
-  fresh = starts c.to_count-state.ensures;
-}
 
 pub returns : goal.returns
 returns c =
-    let seen = c.walk_candidates in
-    let d = describes c.args.w.now in
-    let after = seen.ensures.state_after ∙ ap (seen_of d) c.to_count-state.ensures in
-    census-is d c.args.candidates seen.new.state c.requires.candidates_value.0 (counted-by d c.requires.admitted seen.new.state after)
+    let d = c.args.admitted.now in
+    let choices = c.choices-choices.ensures in
+    let after = c.walk_candidates.ensures.seen ∙ ap (seen_of counted d) c.new-count.ensures in
+    census-is d c.candidates.result c.walk_candidates.new.visitor (c.candidates.ensures ∙ ap count choices.value)
+    (subst (Sees d) (sym after) (counted-by d choices.admitted))

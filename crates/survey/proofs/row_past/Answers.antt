@@ -1,75 +1,71 @@
 -- The row that the walk kept is the row that the draw answers.
-use Rattle.std.proofs.Common.{◌≡◌, ◌-◌, ◌++◌, get_or, sym, ap, ◌∙◌, arith}
+use Rattle.std.proofs.Common.{ℕ, ◌≡◌, ◌-◌, ◌++◌, sym, ap, ◌∙◌}
+use Rattle.description.specs.Declarations.{Description}
 use mathlib.Core.Path.{subst}
 use mathlib.Core.Option.{some}
-use lib.ListN.{replicate}
-use Rattle.description.specs.Meaning.{describes}
+use lib.ListN.{replicate, length}
 use Rattle.costs.specs.declared.answers.Bill.{Bill}
 use Rattle.costs.specs.Cost.{bill_of, cost}
 use Rattle.packing.specs.Packing.{digits}
 use Rattle.packing.proofs.Digits.{padded-low}
 use Rattle.sequences.specs.Arrays.{AllBelow}
-use Rattle.visit.specs.Visits.{best_cost_at, best_place_at}
+use Rattle.visit.specs.Visits.{found}
 use Rattle.survey.specs.declared.Row.{Row}
-use Rattle.survey.specs.Answers.{row_or}
+use Rattle.sequences.specs.Options.{given}
 use Rattle.survey.specs.Rows.{draw}
 use Rattle.survey.specs.Surveys.{Asks}
-use Rattle.survey.proofs.Joins.{starts, KeptRow, kept_by, none_kept, some-kept}
+use Rattle.survey.proofs.Joins.{KeptRow, kept_by, none_kept, some-kept}
 use Rattle.survey.proofs.row_past.Goals as goal
 use Rattle.survey.proofs.row_past.Goals.{After-walk_candidates, After-unpacked-placement}
 
-pub walk_candidates-requires : goal.walk_candidates-requires
-walk_candidates-requires c = record {
-  admitted = c.requires.admitted;
-  candidates_value = c.requires.candidates_value;
-  fresh = starts c.to_draw_past-state.ensures.words;
-}
+-- how many blocks there are
+same-count : {n : ℕ} {w : Description} (d : Description) → n ≡ length w.blocks → w ≡ d → n ≡ length d.blocks
+same-count d v e = v ∙ ap (λ x. length x.blocks) e
 
 -- what the walk kept
-kept : (c : After-walk_candidates) → KeptRow (describes c.args.w.now) (draw (describes c.args.w.now) c.args.cursor) c.walk_candidates.new.state
+kept : (c : After-walk_candidates) → KeptRow c.args.admitted.now (draw c.args.admitted.now c.args.cursor) (found c.walk_candidates.new.visitor)
 kept c =
-    let cursor = c.args.cursor in
-    let asked = subst (λ n. Asks cursor n c.to_draw_past-state.result) c.block_count-blocks.ensures.value c.to_draw_past-state.ensures in
-    let seen = c.walk_candidates in
-    kept_by (describes c.args.w.now) c.requires.admitted cursor c.to_draw_past-state.result seen.new.state asked seen.ensures.state_after
+    let d = c.args.admitted.now in
+    let draws = c.to_draw_past-draw in
+    let asked = subst (λ n. Asks c.args.cursor n draws.result) (same-count d c.block_count-blocks.ensures.value c.description-w.ensures.value) draws.ensures in
+    subst (λ x. KeptRow d (draw d c.args.cursor) (found x)) (sym c.walk_candidates.ensures.seen)
+    (kept_by d c.walk_candidates.ensures.admitted c.args.cursor draws.result asked)
 
-pub returns-then-state-eq-COST_LIMIT : goal.returns-then-state-eq-COST_LIMIT
-returns-then-state-eq-COST_LIMIT c =
-    let a = c.args in
-    let d = describes a.w.now in
-    let seen = (goal.at.returns-then-state-eq-COST_LIMIT c).After-walk_candidates in
-    let e = none_kept d (draw d a.cursor) c.walk_candidates.new.state (kept seen) c.if-state-eq-COST_LIMIT.true in
-    record { result_value = sym e; row_value = c.zero_row.ensures ∙ ap row_or (sym e) }
+pub returns-in_err-best : goal.returns-in_err-best
+returns-in_err-best c =
+    let d = c.args.admitted.now in
+    let row = draw d c.args.cursor in
+    let seen = (goal.at.returns-in_err-best c).After-walk_candidates in
+    ap given c.from_residual.ensures ∙ sym (none_kept d row (subst (KeptRow d row) (sym c.in_err-best.ensures) (kept seen)))
 
 -- the kept cost, and the row that the draw answers
-answered : (c : After-unpacked-placement) → KeptRow (describes c.args.w.now) (draw (describes c.args.w.now) c.args.cursor) c.walk_candidates.new.state
-    → let words = c.walk_candidates.new.state in
-    let d = describes c.args.w.now in
+answered : (c : After-unpacked-placement) → KeptRow c.args.admitted.now (draw c.args.admitted.now c.args.cursor) (found c.walk_candidates.new.visitor)
+    → let best = c.in_ok-best.best in
+    let d = c.args.admitted.now in
     let p = c.unpacked-placement.result in
-    (get_or words best_cost_at 0 ≡ cost d p) ×
-    (draw d c.args.cursor ≡ some (record { cost = get_or words best_cost_at 0; placement = p; bill = bill_of d p }))
+    (best.weight ≡ cost d p) × (draw d c.args.cursor ≡ some (record { cost = best.weight; placement = p; bill = bill_of d p }))
 answered c k =
-    let words = c.walk_candidates.new.state in
-    let place = get_or words best_place_at 0 in
-    let d = describes c.args.w.now in
+    let best = c.in_ok-best.best in
+    let d = c.args.admitted.now in
     let p = c.unpacked-placement in
-    let bytes = p.ensures ∙ ap (λ n. digits n place ++ replicate (16 - n) 0) c.block_count-blocks.ensures.value in
-    some-kept d (draw d c.args.cursor) words k (λ e. omega arith) p.result bytes
+    let n = same-count d c.block_count-blocks.ensures.value c.description-w.ensures.value in
+    let bytes = p.ensures ∙ ap (λ n. digits n best.place ++ replicate (16 - n) 0) n in
+    some-kept d (draw d c.args.cursor) best (subst (KeptRow d (draw d c.args.cursor)) (sym c.in_ok-best.ensures) k) p.result bytes
 
-pub bill_of-bill-requires : goal.bill_of-bill-requires
-bill_of-bill-requires c =
-    let place = get_or c.walk_candidates.new.state best_place_at 0 in
+pub bill_of-bill-requires-clause-all_below : goal.bill_of-bill-requires-clause-all_below
+bill_of-bill-requires-clause-all_below c =
     let n = c.block_count-blocks.result in
-    let at = goal.at.bill_of-bill-requires c in
-    record {
-      well_formed = c.requires.admitted.well_formed;
-      all_below = (subst (AllBelow 8) (sym c.unpacked-placement.ensures) (padded-low n place (16 - n)), (answered at.After-unpacked-placement (kept at.After-walk_candidates)).0);
-    }
+    let p = c.unpacked-placement in
+    let at = goal.at.bill_of-bill-requires-clause-all_below c in (
+      subst (AllBelow 8) (sym p.ensures) (padded-low n c.in_ok-best.best.place (16 - n)),
+      (answered at.After-unpacked-placement (kept at.After-walk_candidates)).0 ∙
+          ap (λ d. cost d p.result) (sym c.description-w.ensures.value),
+    )
 
 pub returns : goal.returns
 returns c =
     let at = goal.at.returns c in
-    let words = c.walk_candidates.new.state in
-    let row : Bill → Row = λ bill. record { cost = get_or words best_cost_at 0; placement = c.unpacked-placement.result; bill = bill } in
-    let drawn = ap (λ bill. some (row bill)) c.bill_of-bill.ensures ∙ sym (answered at.After-unpacked-placement (kept at.After-walk_candidates)).1 in
-    record { result_value = drawn; row_value = ap row_or drawn }
+    let p = c.unpacked-placement.result in
+    let row : Bill → Row = λ bill. record { cost = c.in_ok-best.best.weight; placement = p; bill = bill } in
+    ap (λ bill. some (row bill)) (c.bill_of-bill.ensures ∙ ap (λ d. bill_of d p) c.description-w.ensures.value) ∙
+    sym (answered at.After-unpacked-placement (kept at.After-walk_candidates)).1

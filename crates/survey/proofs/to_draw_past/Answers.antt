@@ -19,19 +19,19 @@ returns-then-cursor c =
     record {
       floor = 0;
       place = 0;
-      words = c.to_draw.ensures;
+      asked = c.new.ensures;
       past = λ cost q size low. ap (behind a.cursor a.blocks cost q) c.if-cursor.true ∙ sym (lowest cost (pack q));
     }
 
 pub returns : goal.returns
 returns c =
-    let floor = c.floor_place in
+    let floor = c.floor_place-place in
     let a = c.args in
     let from = a.cursor.cost in
     record {
       floor = from;
       place = floor.result;
-      words = c.to_draw-2.ensures;
+      asked = c.new-2.ensures;
       past = λ cost q size low.
           ap (behind a.cursor a.blocks cost q) c.if-cursor.false ∙
           ap (λ b. ltb from cost || (eqb from cost && b)) (floor.ensures.after q size low) ∙

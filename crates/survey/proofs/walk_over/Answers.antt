@@ -1,27 +1,25 @@
--- The walk over the tables of the workflow.
-use Rattle.std.proofs.Common.{refl, sym, ◌∙◌}
-use mathlib.Core.Path.{subst₂}
-use Rattle.description.specs.Meaning.{describes}
-use Rattle.visit.specs.Tables.{Ready}
-use Rattle.walk.specs.Walking.{see_all, keep_all}
+-- The tables are those of the description, so a walk may go over them.
+use Rattle.std.proofs.Common.{ℕ, ◌≡◌, length, sym}
+use mathlib.Core.Path.{subst, subst₂}
+use Rattle.description.specs.Declarations.{Description}
+use Rattle.security.specs.Accepted.{Admitted}
+use Rattle.visit.specs.Tables.{Tables, Ready}
+use Rattle.table_entries.specs.Building.{tables_of}
 use Rattle.table_entries.proofs.Built.{ready}
 use Rattle.survey.proofs.walk_over.Goals as goal
 
-pub fill-requires : goal.fill-requires
-fill-requires c = record { well_formed = c.requires.admitted.well_formed; words_value = (refl, refl, c.requires.masks_value) }
+filled : {d w : Description} {t : Tables} {n : ℕ} → Admitted d → w ≡ d → t ≡ tables_of w → n ≡ length w.blocks → Ready t n
+filled {w = w} a same made count =
+    let admitted = subst Admitted (sym same) a in
+    subst₂ Ready (sym made) (sym count) (ready w admitted.well_formed admitted.in_range)
 
-pub walk_all-requires : goal.walk_all-requires
-walk_all-requires c =
-    let admitted = c.requires.admitted in
-    let all = ready (describes c.args.w.now) admitted.well_formed admitted.in_range in
-    record { fresh = c.requires.fresh; ready = subst₂ Ready (sym c.fill.ensures) (sym c.block_count.ensures.value) all }
+pub invariant_of-tables : goal.invariant_of-tables
+invariant_of-tables g c =
+    let w = c.description-w.ensures in
+    let all = filled w.admitted w.value c.fill.ensures c.block_count.ensures.value in
+    record { few = all.few; paired = all.paired }
 
-pub returns : goal.returns
-returns c =
-    let walked = c.walk_all.ensures in
-    let tables = c.fill.ensures in
-    let blocks = c.block_count.ensures.value in
-    record {
-      state_after = walked.state_after ∙ (λ i. see_all (tables i) (blocks i) c.args.state.now);
-      kept_after = walked.kept_after ∙ (λ i. keep_all (tables i) (blocks i) c.args.state.now c.args.kept.now);
-    }
+pub walk_all-requires-clause-ready : goal.walk_all-requires-clause-ready
+walk_all-requires-clause-ready g c =
+    let w = c.description-w.ensures in
+    filled w.admitted w.value c.fill.ensures c.block_count.ensures.value

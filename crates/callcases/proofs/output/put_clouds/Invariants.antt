@@ -1,9 +1,7 @@
--- Sixteen digits are put and no more.
-use Rattle.std.proofs.Common.{◌-◌, ◌≤◌}
+-- Each cloud put so far took one byte.
+use Rattle.std.proofs.Common.{◌+◌, ◌≡◌}
+use Rattle.arrayvec.specs.ArrayVec.{array_vec_len}
 use Rattle.callcases.proofs.output.put_clouds.Given as goal
 
-abbrev pub invariant-loop-i : goal.invariant-loop-i
-invariant-loop-i l = l.i ≤ 16
-
-abbrev pub decreases-loop-i : goal.decreases-loop-i
-decreases-loop-i l = 16 - l.i
+abbrev pub invariant-loop-cloud : goal.invariant-loop-cloud
+invariant-loop-cloud g l = array_vec_len l.out ≡ array_vec_len l.initial.out + l.cloud-index

@@ -1,24 +1,20 @@
--- Block by block from the last: the clouds of the blocks before are still to be written.
-use Rattle.std.proofs.Common.{◌≡◌, ℕ, suc, ◌+◌, ◌-◌, ◌/◌, ◌%◌, map, ap, ◌∙◌, arith}
+-- Block by block: the clouds of the blocks before are in their places.
+use Rattle.std.proofs.Common.{map, ◌∙◌, arith}
+use Rattle.std.proofs.lemmas.List.Edits.{paste_more}
 use Rattle.packing.specs.Packing.{digits as clouds}
-use Rattle.packing.proofs.Digits.{digits-none}
 use Rattle.list_text.specs.Lines.{digit}
-use Rattle.list_text.proofs.Writing.{filled_more, filled}
-use Rattle.list_text.proofs.RowLines.{last-cloud, clouds-size}
+use Rattle.list_text.proofs.Placing.{whole}
+use Rattle.list_text.proofs.RowLines.{clouds-size, cloud_byte}
 use Rattle.list_text.proofs.rows.put_clouds.Goals as goal
 
 pub loop-block-preserved : goal.loop-block-preserved
 loop-block-preserved c =
-    let at = c.args.at in
-    let w = c.loop-block in
-    let n = w.block - 1 in
-    let e : w.block ≡ suc n = omega arith in
-    let size = clouds-size n (w.left / 8) in
-    let last = ap (λ (m : ℕ). map digit (clouds m w.left)) e ∙ last-cloud n w.left in
-    (omega arith, filled_more (map digit (clouds n (w.left / 8))) (at + n) (48 + w.left % 8) w.invariant.1 last (omega arith) (omega arith))
+    let text = map digit (clouds c.args.blocks c.args.place) in
+    let size = clouds-size c.args.blocks c.args.place in
+    let byte = cloud_byte c.args.blocks c.args.place c.loop-block.block c.cloud_in.result c.cloud_in.ensures.1 c.cloud_in.ensures.0 in
+    rw (c.loop-block.invariant, byte) (paste_more c.args.buffer.now c.args.at text c.loop-block.block (digit 0) (omega arith) (omega arith))
 
-pub returns : goal.returns
-returns c =
-    let z : c.loop-block.block ≡ 0 = omega arith in
-    let none = ap (map digit) (digits-none c.loop-block.left) in
-    filled (rw (z, none) at c.loop-block.invariant.1)
+pub returns-clause-buffer_after : goal.returns-clause-buffer_after
+returns-clause-buffer_after c =
+    let size = clouds-size c.args.blocks c.args.place in
+    c.loop-block.invariant ∙ whole (map digit (clouds c.args.blocks c.args.place)) c.args.buffer.now c.args.at c.loop-block.block (omega arith)

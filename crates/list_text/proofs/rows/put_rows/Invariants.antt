@@ -4,9 +4,6 @@ use Rattle.list_text.specs.RowLines.{words_of_row, bytes_of_line, lines_of}
 use Rattle.list_text.proofs.Writing.{Put}
 use Rattle.list_text.proofs.rows.put_rows.Given as goal
 
-abbrev pub invariant-loop-next : goal.invariant-loop-next
-invariant-loop-next l =
-    (l.next ≤ l.stop) × (l.end + bytes_of_line * (l.stop - l.next) ≤ length l.initial.buffer) × Put (lines_of l.digits (take (l.next * words_of_row) l.words)) l.initial.buffer l.buffer 0 l.end
-
-abbrev pub decreases-loop-next : goal.decreases-loop-next
-decreases-loop-next l = l.stop - l.next
+abbrev pub invariant-loop-k : goal.invariant-loop-k
+invariant-loop-k l =
+    (l.end + bytes_of_line * (l.rows - l.k) ≤ length l.initial.buffer) × Put (lines_of l.digits (take (l.k * words_of_row) l.words)) l.initial.buffer l.buffer 0 l.end

@@ -7,4 +7,4 @@ use Rattle.visit.proofs.rowtest.is_better.Goals as goal
 pub returns : goal.returns
 returns c =
     let there = c.args.there in
-    sym (bit_is c.wide-better.result there) ∙ ap (λ m. bit m there) c.wide-better.ensures
+    sym (bit_is c.from-better.result there) ∙ ap (λ m. bit m there) c.from-better.ensures

@@ -1,2 +1,0 @@
-pub mod CommandBytes
-pub mod Steps

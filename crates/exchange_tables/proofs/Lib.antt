@@ -1,0 +1,3 @@
+pub mod Longevity
+pub mod Noting
+pub mod Putting
