@@ -57,6 +57,10 @@ if "$work/panel" >/dev/full 2>/dev/null; then
     fail 'the C++ example does not notice that standard output is full'
 fi
 
+# What the archive needs from outside, as docs/LIMITS.md says it: a user without a C library has to bring no more.
+needed=$(nm -u "$archive" | awk '$1 == "U" { print $2 }' | sort -u | tr '\n' ' ')
+[ "$needed" = 'memcpy memset ' ] || fail "the archive needs from outside: $needed"
+
 # The header's own functions, from both languages. If a length is 0, each call answers the same for a null pointer and for another one. The
 # sanitizer ends the program if the archive is handed a null pointer.
 cat >"$work/header.c" <<'C'
