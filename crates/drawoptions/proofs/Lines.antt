@@ -6,6 +6,7 @@ use mathlib.Core.Path.{◌≡◌, ap, ap₂, ◌∙◌}
 use mathlib.Core.List.{List, [], ◌∷◌, ◌++◌, map, append-nil, map-append}
 use lib.ListN.{length, take, drop, length-append}
 use lib.Seq.{take-append_seam}
+use Rattle.std.specs.Prelude.{Result as StdResult, Ok, Err, OnErr}
 use borrow.Author.Tests.{le-leb}
 use Rattle.list_text.specs.Lines.{placed, placed_end, written}
 use Rattle.list_text.specs.RowLines.{words_line, rows_text}
@@ -39,3 +40,8 @@ next-line s n =
     ap (λ l. joined (map (line_at s) l)) (from-split 0 n 1) ∙ ap joined (map-append (line_at s) (below n) (from (0 + n) 1)) ∙
     joined-append (map (line_at s) (below n)) (line_at s (0 + n) ∷ []) ∙
     ap (λ l. lines_before s n ++ l) (append-nil (line_at s (0 + n)) ∙ ap (line_at s) (zero-add n))
+
+-- what holds anyway holds after an error
+pub on_err : {T E P : Type 0} (r : StdResult T E) → P → OnErr r P
+on_err (Ok x) p = tt
+on_err (Err e) p = p

@@ -4,7 +4,8 @@ use Prim.Native.Nat.{ℕ, zero, suc, ◌+◌, ◌-◌, ◌*◌, ◌/◌, ◌≤�
 use native.Mathlib.Decide.{dec_lt}
 use native.Mathlib.Omega.{arith}
 use mathlib.Core.Path.{◌≡◌, refl, sym, ap, ap₂, subst, ◌∙◌}
-use Rattle.std.specs.Prelude.{Option, IfSome}
+use mathlib.Core.Bool.{false}
+use Rattle.std.specs.Prelude.{Option, None, Some, IfSome, is_some}
 use Rattle.std.specs.Io.KnownBytes.{Appends, Consumes, IsAtEnd}
 use mathlib.Core.List.{List, [], ◌∷◌, ◌++◌, map, append-nil, append_assoc, Memᴰ}
 use lib.ListN.{length, take, drop, replicate, length-append, length-take, length-drop}
@@ -35,7 +36,7 @@ use Rattle.std.proofs.lemmas.Option.{IfSome_then}
 use Rattle.standard_input.proofs.Breaking.{broken_behind}
 use Rattle.standard_input.proofs.Reading.{read_front}
 use Rattle.listoptions.specs.Printed.{row_lines, printed_for, printed}
-use Rattle.listoptions.specs.Making.{held_words, held_keys, held_bytes, page_rows, page_words, rows_of, blocks_of, lines_in, page_text, last_line, BeginsWith, NextBytes}
+use Rattle.listoptions.specs.Making.{held_words, held_keys, held_bytes, page_rows, page_words, rows_of, blocks_of, page_of, lines_in, page_text, last_line, BeginsWith, NextBytes}
 
 -- ---- pages
 
@@ -63,12 +64,50 @@ up_to b m l = elim (dec_lt (length l / 5) m) [
   | no h ↦ let e : min (length l / 5) m * 5 ≡ m * 5 = omega arith in ap (λ (k : ℕ). lines_of b (take k l)) e
 ]
 
--- what goes into a page's bytes are the lines of its rows, which fit
-pub page-made : (blocks : ℕ) (page text : List ℕ) → length page ≤ page_words → length text ≡ held_bytes → rows_text page blocks text ≡ lines_in blocks page
-page-made blocks page text few h =
+-- what goes into a page's bytes is the page
+pub page-made : (blocks k : ℕ) (words text : List ℕ) → length text ≡ held_bytes → rows_text (drop (k * page_rows * 5) words) blocks text ≡ page_text blocks words k
+page-made blocks k words text h =
+    let l = drop (k * page_rows * 5) words in
     let e : length text / 101 ≡ page_rows = omega arith in
-    ap (λ (m : ℕ). lines_in blocks (take (min (length page / 5) m * 5) page)) e ∙ up_to (min blocks 16) page_rows page ∙
-    ap (lines_in blocks) (take_all page_words page few)
+    ap (λ (m : ℕ). lines_in blocks (take (min (length l / 5) m * 5) l)) e ∙ up_to (min blocks 16) page_rows l
+
+-- the same of the words of one page alone, which are no more than a page takes
+pub lines-made : (blocks : ℕ) (page text : List ℕ) → length page ≤ page_words → length text ≡ held_bytes → rows_text page blocks text ≡ lines_in blocks page
+lines-made blocks page text few h = page-made blocks 0 page text h ∙ ap (lines_in blocks) (take_all page_words page few)
+
+-- one more page
+pub next-page : (blocks k : ℕ) (words : List ℕ)
+    → lines_in blocks (take ((k + 1) * page_rows * 5) words) ≡ lines_in blocks (take (k * page_rows * 5) words) ++ page_text blocks words k
+next-page blocks k words =
+    let e : (k + 1) * page_rows * 5 ≡ (k * page_rows + page_rows) * 5 = omega arith in
+    ap (λ (n : ℕ). lines_in blocks (take n words)) e ∙ taken-apart (min blocks 16) (k * page_rows) page_rows words
+
+-- a page is cut from the front of what is left: it is the first words of that, and what is behind it are the others
+module _ (page rest left : List ℕ) (e : left ≡ page ++ rest) (size : length page ≡ min page_words (length left)) where
+  cut-front : take page_words left ≡ page
+  cut-front = elim (dec_lt (length left) page_words) [
+    | yes h ↦
+        let none : rest ≡ [] = nil_from_length rest (omega (arith, ap length e ∙ length-append page rest)) in
+        take_all page_words left (omega arith) ∙ e ∙ ap (λ r. page ++ r) none ∙ append-nil page
+    | no h ↦ let whole : length page ≡ page_words = omega arith in ap (take page_words) e ∙ take_at page rest page_words whole
+  ]
+
+  cut-behind : drop page_words left ≡ rest
+  cut-behind = elim (dec_lt (length left) page_words) [
+    | yes h ↦
+        let none : rest ≡ [] = nil_from_length rest (omega (arith, ap length e ∙ length-append page rest)) in
+        nil_from_length (drop page_words left) (omega (arith, length-drop page_words left)) ∙ sym none
+    | no h ↦ let whole : length page ≡ page_words = omega arith in ap₂ drop (sym whole) e ∙ drop-append_seam page rest
+  ]
+
+  -- where the words of the pages before page k are gone, it is page k of all words, and what is behind it is left where page k is gone too
+  pub cut-page : (words : List ℕ) (k : ℕ) → left ≡ drop (k * page_rows * 5) words → page ≡ page_of words k
+  cut-page words k from = sym cut-front ∙ ap (take page_words) from
+
+  pub cut-rest : (words : List ℕ) (k : ℕ) → left ≡ drop (k * page_rows * 5) words → rest ≡ drop ((k + 1) * page_rows * 5) words
+  cut-rest words k from =
+      let n : k * page_rows * 5 + page_words ≡ (k + 1) * page_rows * 5 = omega arith in
+      sym cut-behind ∙ ap (drop page_words) from ∙ drop-drop page_words (k * page_rows * 5) words ∙ ap (λ (m : ℕ). drop m words) n
 
 -- the lines of the rows that are left are those of the next page and those of the rows behind it
 pub page-cut : (blocks : ℕ) (page rest left : List ℕ) → left ≡ page ++ rest → length page ≡ min page_words (length left)
@@ -201,6 +240,51 @@ next-bytes front part rest {text} {done} e d =
     let behind = sym (drop-append_seam front (part ++ rest)) ∙ ap (drop (length front)) (sym (append_assoc front part rest) ∙ e) in
     sym (take-append_seam part rest) ∙ ap (take (length part)) (behind ∙ ap (λ n. drop n text) (sym d))
 
+-- the lines of the rows behind page k
+abbrev lines_behind : (blocks k : ℕ) → List ℕ → List ℕ
+lines_behind blocks k words = lines_of (min blocks 16) (take (length words * 5) (drop ((k + 1) * page_rows * 5) words))
+
+-- the lines are those of the pages before page k, page k and what is behind it
+lines-by-page : (blocks k : ℕ) (words : List ℕ)
+    → lines_in blocks words ≡ (lines_in blocks (take (k * page_rows * 5) words) ++ page_text blocks words k) ++ lines_behind blocks k words
+lines-by-page blocks k words =
+    let b = min blocks 16 in
+    let m = (k + 1) * page_rows in
+    let n = length words in
+    ap (lines_of b) (sym (take_all ((m + n) * 5) words (omega arith))) ∙ taken-apart b m n words ∙
+    ap (λ l. l ++ lines_behind blocks k words) (next-page blocks k words)
+
+-- for pages: page k comes after the lines of the pages before it
+pub page-next : (blocks k : ℕ) (words : List ℕ) {text : List ℕ} {done : ℕ} → BeginsWith text (lines_in blocks words)
+    → done ≡ length (lines_in blocks (take (k * page_rows * 5) words)) → NextBytes text done (page_text blocks words k)
+page-next blocks k words (rest, e) d =
+    let front = lines_in blocks (take (k * page_rows * 5) words) in
+    let page = page_text blocks words k in
+    let more = lines_behind blocks k words in
+    next-bytes front page (more ++ rest) (sym (append_assoc (front ++ page) more rest) ∙ ap (λ l. l ++ rest) (sym (lines-by-page blocks k words)) ∙ e) d
+
+-- the lines broke off if page k did, after those of the pages before it
+pub page-broken : (blocks k : ℕ) (words : List ℕ) (a b c : Option (List ℕ)) → Appends a b (lines_in blocks (take (k * page_rows * 5) words))
+    → BreaksOff b c (page_text blocks words k) → BreaksOff a c (lines_in blocks words)
+page-broken blocks k words a b c written broken =
+    let front = lines_in blocks (take (k * page_rows * 5) words) in
+    let page = page_text blocks words k in
+    let more = lines_behind blocks k words in
+    subst (BreaksOff a c) (sym (lines-by-page blocks k words ∙ append_assoc front page more)) (broken_behind a b c front page more written broken)
+
+-- nothing is said of an error that is not there
+pub no-error : {E : Type 0} (P : E → Type 0) (failed : Option E) → failed ≡ None → IfSome failed P
+no-error P failed h = subst (λ o. IfSome o P) (sym h) tt
+
+-- and of the one that is there it is so
+pub with-error : {E : Type 0} (Q : Type 0) (failed : Option E) (e : E) → IfSome failed (λ x. Q) → failed ≡ Some e → Q
+with-error Q failed e q h = subst (λ o. IfSome o (λ x. Q)) h q
+
+-- what did not fail has no error
+pub not-failed : {E : Type 0} (failed : Option E) → is_some failed ≡ false → failed ≡ None
+not-failed None h = refl
+not-failed (Some e) h = cc
+
 -- the lines of the rows before those that are left were handed over, and are so many bytes
 pub record Handed (blocks : ℕ) (rows left : List ℕ) (sent : ℕ) (old new : Option (List ℕ)) : Type 0 where
   pub front : List ℕ
@@ -227,8 +311,8 @@ module _ (blocks : ℕ) (rows left page rest : List ℕ) (sent : ℕ) (old new :
   by-page = ap (λ l. h.front ++ l) (sym (page-cut blocks page rest left e size)) ∙ h.lines
 
   -- it comes next in a text that begins with the lines
-  pub page-next : (text : List ℕ) → BeginsWith text (lines_in blocks rows) → NextBytes text sent (lines_in blocks page)
-  page-next text (after, begins) =
+  pub cut-next : (text : List ℕ) → BeginsWith text (lines_in blocks rows) → NextBytes text sent (lines_in blocks page)
+  cut-next text (after, begins) =
       let lines = lines_in blocks page in
       let more = lines_in blocks rest in
       next-bytes h.front lines (more ++ after)
@@ -244,8 +328,8 @@ module _ (blocks : ℕ) (rows left page rest : List ℕ) (sent : ℕ) (old new :
   }
 
   -- the lines broke off if the page did
-  pub page-broken : (after : Option (List ℕ)) → BreaksOff new after (lines_in blocks page) → BreaksOff old after (lines_in blocks rows)
-  page-broken after broken =
+  pub cut-broken : (after : Option (List ℕ)) → BreaksOff new after (lines_in blocks page) → BreaksOff old after (lines_in blocks rows)
+  cut-broken after broken =
       subst (BreaksOff old after) by-page (broken_behind old new after h.front (lines_in blocks page) (lines_in blocks rest) h.taken broken)
 
 -- a text that was put at the front of a buffer is what is handed over of it

@@ -33,6 +33,10 @@ abbrev pub blocks_of : Result (ℕ × ℕ) → ℕ
 blocks_of (ok extent) = extent.1
 blocks_of (refused number place) = 0
 
+-- the words of page k of the rows that words make
+abbrev pub page_of : List ℕ → (k : ℕ) → List ℕ
+page_of words k = take page_words (drop (k * page_rows * words_of_row) words)
+
 -- the lines of the rows that words make, and those of page k of them
 abbrev pub lines_in : (blocks : ℕ) → List ℕ → List ℕ
 lines_in blocks words = lines_of (min blocks 16) words

@@ -8,7 +8,7 @@ ghost use Rattle.standard_input.specs.Failures.{NotWritten, OfOutput, BreaksOff}
 ghost use Rattle.whole_list.specs.WholeList.{list_answer};
 ghost use Rattle.list_text.specs.Lines.{written};
 ghost use Rattle.list_text.specs.RowLines.{words_of_row};
-ghost use Rattle.listoptions.specs.Making.{held_words, held_keys, held_bytes, page_words, rows_of, blocks_of, last_line};
+ghost use Rattle.listoptions.specs.Making.{held_words, held_keys, held_bytes, rows_of, blocks_of, last_line, page_of, page_text};
 ghost use Rattle.listoptions.specs.Making.{lines_in, BeginsWith, NextBytes, Whole, Taken, BrokeOff};
 ghost use Rattle.listoptions.specs.Printed.{printed};
 
@@ -54,14 +54,15 @@ fn put_last(listed: Result<Extent, Refusal>, text: &mut [u8]) -> usize
     }
 }
 
-// The lines of a page's rows.
-fn put_page(page: &[u64], blocks: usize, text: &mut [u8]) -> usize
-    requires words { length page.now ≤ page_words }
+// A page of the rows' lines. `words` are those of the page.
+fn put_page(rows: &[u64], blocks: usize, page: usize, words: &[u64], text: &mut [u8]) -> usize
+    requires in_rows { words.now ≡ page_of rows.now page }
     requires room { length text.old ≡ held_bytes }
-    ensures value { result ≡ length (lines_in blocks page.now) }
-    ensures text_after { text.new ≡ written (lines_in blocks page.now) text.old 0 }
+    ensures value { result ≡ length (page_text blocks rows.now page) }
+    ensures text_after { text.new ≡ written (page_text blocks rows.now page) text.old 0 }
+    ensures lines { page_text blocks rows.now page ≡ lines_in blocks words.now }
 {
-    put_rows(page, blocks, text)
+    put_rows(words, blocks, text)
 }
 
 // Hands a text to the writer; nothing else does. `sent` bytes were handed over before it, and the answer counts its own too. No contract can say
@@ -98,8 +99,8 @@ fn write_pages<W: Write>(
     ensures broken { BrokeOff result (W.contents out.old) (W.contents out.new) (lines_in blocks rows.now) }
 {
     let mut sent = 0;
-    for page in rows.chunks(PAGE_WORDS) {
-        let end = put_page(page, blocks, text);
+    for (page, words) in rows.chunks(PAGE_WORDS).enumerate() {
+        let end = put_page(rows, blocks, page, words, text);
         sent = write_next(out, description, sent, &text[..end])?;
     }
     Ok(sent)
