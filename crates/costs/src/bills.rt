@@ -15,9 +15,13 @@ use std::marker::Model;
 const CHARGES: usize = 3;
 
 // A row for each of eight clouds, and one for each of sixteen blocks.
-const RATES: usize = 24;
+pub const RATES: usize = 24;
 
-const QUANTITIES: usize = 48;
+pub const QUANTITIES: usize = 48;
+
+pub type Rates = [u16; RATES];
+
+pub type Quantities = [u32; QUANTITIES];
 
 // The clouds of the blocks. It is lent: passed by value, it would be copied for every edge.
 pub type Placement = [u8; 16];
@@ -35,7 +39,7 @@ fn column_of(charge: Charge) -> usize
 }
 
 // The rates of the declared clouds, for each charge.
-fn rates_of(w: &Description) -> [u16; RATES]
+pub fn rates_of(w: &Description) -> Rates
     ensures { result ≡ rates_of w.now }
 {
     let mut rates = [0u16; RATES];
@@ -48,7 +52,7 @@ fn rates_of(w: &Description) -> [u16; RATES]
 }
 
 // The quantities of the declared blocks, for each charge.
-fn quantities_of(w: &Description) -> [u32; QUANTITIES]
+pub fn quantities_of(w: &Description) -> Quantities
     ensures { result ≡ quantities_of w.now }
 {
     let mut quantities = [0u32; QUANTITIES];
@@ -72,8 +76,8 @@ fn amount(rate: u16, quantity: u32) -> u64
 #[derive(Drop)]
 pub struct Prices<'a> {
     description: &'a Description,
-    rates: [u16; RATES],
-    quantities: [u32; QUANTITIES],
+    rates: Rates,
+    quantities: Quantities,
 }
 
 impl<'a> Model for Prices<'a> {

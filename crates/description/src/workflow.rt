@@ -94,7 +94,7 @@ pub struct Pair {
 }
 
 // A description, within the format's limits.
-#[derive(Drop)]
+#[derive(Clone, Debug, Drop)]
 pub struct Description {
     clouds: ArrayVec<Cloud, MOST_CLOUDS>,
     blocks: ArrayVec<Block, MOST_BLOCKS>,

@@ -38,21 +38,27 @@ fn candidates_of(w: &Description) -> Result<u64, Refusal>
     Ok(admitted.choices().candidates())
 }
 
-// What Read refuses, then what Judge refuses; if neither does, w is the description.
+// What Read refuses, then what Judge refuses; if neither does, w is the description. After what Read refuses nothing is declared.
 #[tactic(auto, using(security::proofs::Sound::read_is), unfolding(crate::specs::Calls::judged, crate::specs::Calls::judge_call))]
 pub fn secured(description: &[u8], placement: [u8; 16], w: &mut Description) -> Result<(), Refusal>
     ensures value { answered (λ u. u) result ≡ judge_call description.now placement }
     ensures w_after { outcome_of result w.new ≡ judged description.now placement }
+    ensures cleared { Cleared (read description.now) w.new }
 {
     decode(description, w)?;
-    let accepted = admit(w)?;
-    verdict(accepted.choices(), placement).ok()
+    let refusal = match admit(w) {
+        Ok(accepted) => return verdict(accepted.choices(), placement).ok(),
+        Err(refusal) => refusal,
+    };
+    w.clear();
+    Err(refusal)
 }
 
 // The same as a verdict.
 pub fn accept_secure(description: &[u8], placement: [u8; 16], w: &mut Description) -> Verdict
     ensures value { judge_answer result ≡ judge_call description.now placement }
     ensures w_after { verdict_on result w.new ≡ judged description.now placement }
+    ensures cleared { Cleared (read description.now) w.new }
 {
     match secured(description, placement, w) {
         Ok(()) => Verdict::Secure,

@@ -27,10 +27,17 @@ fn kept_place(place: usize) -> u64
     place.min(HIGHEST_PLACE) as u64
 }
 
+// The status of a refusal with any number, whether or not a call refuses with it.
+pub fn numbered_status(number: u8, place: usize) -> u64
+    ensures { result ≡ refusal_status number place }
+{
+    u64::from(number) + 256 * kept_place(place)
+}
+
 fn refusal_status(refusal: Refusal) -> u64
     ensures { result ≡ refusal_status (fault_number refusal.fault) refusal.place }
 {
-    u64::from(refusal.fault.number()) + 256 * kept_place(refusal.place)
+    numbered_status(refusal.fault.number(), refusal.place)
 }
 
 // The status of an answer without values.

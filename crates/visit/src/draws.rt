@@ -10,16 +10,16 @@ use crate::{Met, Visitor};
 use weights::COST_LIMIT;
 
 // What is above every row, and stands for the best row as long as there is none: so that one comparison tells most placements.
-const NONE: Met = Met {
+pub const NONE: Met = Met {
     weight: COST_LIMIT,
     place: 0,
 };
 
-// No row before the floor is wanted. The best row so far, or `NONE`.
+// No row before the floor is wanted. The best row so far, or `NONE`; with another one to begin with, only rows before it are wanted.
 #[derive(Clone, Copy)]
 pub struct Draw {
     pub floor: Met,
-    best: Met,
+    pub best: Met,
 }
 
 // No two blocks in conflict share a cloud, and the placement represents its option.

@@ -16,6 +16,9 @@ pub const FIRST_PENALTY: u64 = COST_LIMIT;
 
 pub const SECOND_PENALTY: u64 = 297237575406452736;
 
+// How many kinds of placements are counted.
+pub const CLASSES: usize = 4;
+
 // The kinds of placements that are counted. The weight does not show the last one: such placements break what no single edge decides.
 #[derive(Clone, Copy, Debug, PartialEq, Eq)]
 pub enum Class {
