@@ -9,7 +9,7 @@ use Rattle.list_text.specs.Statements.{Sizes}
 use Rattle.list_text.proofs.Decimals.{fits_word, fit_words, fits_byte}
 
 -- the digits of the clouds, one for each block
-clouds-length : (blocks : ℕ) (p : List ℕ) → length p ≡ 16 → length (map digit (take blocks p)) ≡ min blocks 16
+pub clouds-length : (blocks : ℕ) (p : List ℕ) → length p ≡ 16 → length (map digit (take blocks p)) ≡ min blocks 16
 clouds-length blocks p h = simp (length-map, length-take, h)
 
 pub sizes : Sizes

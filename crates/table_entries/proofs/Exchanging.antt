@@ -1,13 +1,14 @@
 -- The table of exchanges: made from the other tables it is what the description says, and its bits say where a datum would do better.
 use Prim.Native.Nat.{ℕ, zero, suc, ◌+◌, ◌-◌, ◌*◌, ◌/◌, ◌%◌, ◌≤◌, ◌<◌}
 use native.Mathlib.Nat.{zero-add, add-mul, mul-zero, mul-one, mul_assoc, mul-le-mul, le_refl}
+use native.Mathlib.Decide.{dec_lt}
 use native.Mathlib.Omega.{arith}
 use mathlib.Core.Path.{◌≡◌, refl, sym, ap, ap₂, ◌∙◌}
-use mathlib.Core.Bool.{Bool, true, false, ◌&&◌, cond, false≢true}
+use mathlib.Core.Bool.{Bool, true, false, ◌&&◌, ◌||◌, cond, false≢true}
 use mathlib.Core.List.{List, [], ◌∷◌, ◌++◌}
-use lib.Dec.{ltb}
+use lib.Dec.{ltb, eqb}
 use lib.ListN.{length, get_or, take, replicate}
-use borrow.Author.Tests.{lt-ltb}
+use borrow.Author.Tests.{lt-ltb, le-ltb, eq-eqb, ne_eqb}
 use Rattle.description.specs.declared.workflow.Cloud.{Cloud}
 use Rattle.description.specs.declared.workflow.Kind.{Kind}
 use Rattle.description.specs.declared.workflow.Kind.TheVariants.{Datum, Service}
@@ -29,7 +30,7 @@ use Rattle.visit.specs.Tables.{tables, exchange}
 use Rattle.sequences.specs.Bits.{bits}
 use Rattle.security.specs.Masks.{mask_of}
 use Rattle.table_entries.specs.Building.{own_of, only, of_pair, pair_at, exchange_bits, exchange_at, exchanges_of, kept_longer, deciding}
-use Rattle.table_entries.specs.Building.{better_by, bits_by, exchange_by, exchanges_by, words_of, bytes_of, tables_of}
+use Rattle.table_entries.specs.Building.{better_by, bits_by, may_exchange, exchange_by, exchanges_by, words_of, bytes_of, tables_of}
 use Rattle.sequences.proofs.Bits.{bit-bits, bits-same, bits-cut}
 use Rattle.sequences.proofs.Filling.{get_or-table, get_or-table_to, table_to-same}
 use Rattle.table_entries.proofs.Places.{own_in, mask-in, last-in, other_last}
@@ -37,11 +38,32 @@ use Rattle.table_entries.proofs.Paired.{first-of-pair}
 
 -- ---- two pairs of numbers
 
+nothing-more : (s t : Bool) → (s || (t && false)) ≡ s
+nothing-more true t = refl
+nothing-more false true = refl
+nothing-more false false = refl
+
+-- the first numbers decide, and if they are equal, the second
+pub pairs-tie : (x y k h : ℕ) → x ≡ y → before (x ∷ k ∷ []) (y ∷ h ∷ []) ≡ ltb k h
+pairs-tie x y k h e = simp (le-ltb x y (omega arith), eq-eqb x y e) (nothing-more (ltb k h) (eqb k h))
+
+pub pairs-differ : (x y k h : ℕ) → (x ≡ y → ⊥) → before (x ∷ k ∷ []) (y ∷ h ∷ []) ≡ ltb x y
+pairs-differ x y k h e = simp (ne_eqb x y e) (nothing-more (ltb x y) false)
+
 -- ---- entries
 
 where-passed : (t : Bool) (x y : ℕ) → (t ≡ true → x ≡ y) → cond t x 0 ≡ cond t y 0
 where-passed true x y h = h refl
 where-passed false x y h = refl
+
+-- if an entry has no exchange, the rest of its row has none
+pub none_after : (bytes : List ℕ) (clouds i j : ℕ) → may_exchange bytes clouds i ≡ false → i % 8 ≤ j % 8 → j / 8 ≡ i / 8 → may_exchange bytes clouds j ≡ false
+none_after bytes clouds i j h l row = elim (dec_lt (j % 8) clouds) [
+  | yes there ↦
+      let pair : ltb (get_or bytes (97 + 2 * (i / 8)) 0) 16 ≡ false = simp (lt-ltb (i % 8) clouds (omega arith)) at h in
+      simp (row, lt-ltb (j % 8) clouds there) pair
+  | no past ↦ simp (le-ltb (j % 8) clouds (omega arith))
+]
 
 -- what a block adds
 pub own_at : (d : Description) (b k : ℕ) → b < 16 → k < 8 → get_or (words_of d) (b * 8 + k) 0 ≡ block_term d b k

@@ -1,12 +1,12 @@
 -- A row in lent words.
-use Prim.Native.Nat.{ℕ, ◌+◌, ◌*◌, ◌≤◌}
+use Prim.Native.Nat.{ℕ, ◌+◌, ◌*◌, ◌≤◌, ◌<◌}
 use native.Mathlib.Numerals.{add-one}
 use mathlib.Core.Path.{◌≡◌, ap, ◌∙◌}
 use mathlib.Core.Bool.{true, false}
 use mathlib.Core.List.{List, [], ◌∷◌, ◌++◌}
 use lib.ListN.{length, take, drop, set}
 use lib.Seq.{sets-eq}
-use borrow.Author.Tests.{le-leb}
+use borrow.Author.Tests.{lt-leb, le-leb}
 use Rattle.visit.specs.declared.counts.Count.{Count}
 use Rattle.visit.specs.Tables.{Tests}
 use Rattle.visit.specs.Visits.{counted, with_row, keep_row}
@@ -29,10 +29,18 @@ module _ (weight place : ℕ) (t : Tests) (c : Count) where
   unfolding keep_row
   kept_row words h = rw h
 
+-- ---- a row in lent words
+
 module _ (n cost place : ℕ) (words : List ℕ) where
+  -- if there is no room, the words stay
+  pub no_room : length words < n * 2 + 2 → with_row n cost place words ≡ words
+  unfolding with_row
+  no_room h = rw (lt-leb (n * 2 + 2) (length words) h)
+
+  pub row-stored : n * 2 + 2 ≤ length words → with_row n cost place words ≡ set (set words (n * 2) cost) (n * 2 + 1) place
+  unfolding with_row
+  row-stored h = rw (le-leb (n * 2 + 2) (length words) h)
+
   -- if there is room it is stored after the n rows before it, and what is beyond stays
   pub row-behind : n * 2 + 2 ≤ length words → with_row n cost place words ≡ take (n * 2) words ++ (cost ∷ place ∷ []) ++ drop (n * 2 + 2) words
-  unfolding with_row
-  row-behind h =
-      let stored : with_row n cost place words ≡ set (set words (n * 2) cost) (n * 2 + 1) place = rw (le-leb (n * 2 + 2) (length words) h) in
-      stored ∙ ap (λ k. set (set words (n * 2) cost) k place) (add-one (n * 2)) ∙ sets-eq (cost ∷ place ∷ []) words (n * 2) h
+  row-behind h = row-stored h ∙ ap (λ k. set (set words (n * 2) cost) k place) (add-one (n * 2)) ∙ sets-eq (cost ∷ place ∷ []) words (n * 2) h

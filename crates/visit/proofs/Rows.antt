@@ -1,12 +1,15 @@
 -- The cases of the row test: to which end a datum can move. The tests look at the bytes of the tables alone.
 use Prim.Native.Nat.{ℕ, ◌+◌, ◌*◌, ◌≤◌, ◌<◌}
-use mathlib.Core.Path.{◌≡◌}
+use mathlib.Core.Path.{◌≡◌, refl}
 use mathlib.Core.Bool.{Bool, false}
-use mathlib.Core.List.{List}
+use mathlib.Core.List.{List, []}
 use lib.ListN.{get_or}
 use borrow.Author.Tests.{lt-ltb, le-ltb, eq-eqb, ne_eqb}
 use Rattle.sequences.specs.Bits.{bit}
-use Rattle.visit.specs.Tables.{Tables, pair, exchange, moves_to, better_on}
+use Rattle.packing.specs.Packing.{digits}
+use Rattle.visit.specs.declared.tables.Tables.{Tables as Lent}
+use Rattle.visit.specs.Lent.{tests_in}
+use Rattle.visit.specs.Tables.{Tables, tables, pair, exchange, apart, moves_to, better_on, stands, Paired, tests_of}
 
 module _ (t : Tables) (q : List ℕ) (m : ℕ) where
   -- block m is a datum that would do better at its other end
@@ -32,3 +35,17 @@ module _ (t : Tables) (q : List ℕ) (m : ℕ) where
 
     pub elsewhere : (a ≡ c → ⊥) → (get_or q m 0 ≡ a → ⊥) → (get_or q m 0 ≡ c → ⊥) → better_away ≡ false
     elsewhere g h i = simp (lt-ltb (pair t (2 * m)) 16 paired, ← e, ← f, ne_eqb a c g, ne_eqb (get_or q m 0) a h, ne_eqb (get_or q m 0) c i)
+
+-- ---- the tests do not depend on the words
+
+module _ (words bytes : List ℕ) (n : ℕ) where
+  pub tests-bytes : (q : List ℕ) → tests_of (tables [] bytes) n q ≡ tests_of (tables words bytes) n q
+  unfolding apart stands
+  tests-bytes q = refl
+
+  pub paired-bytes : Paired (tables words bytes) n → Paired (tables [] bytes) n
+  paired-bytes p = record { pairs_small = p.pairs_small; conflicts_few = p.conflicts_few; conflicts_small = p.conflicts_small }
+
+-- nor do those of the tables that a walk is lent
+pub lent-bytes : (t : Lent) (place : ℕ) → tests_of (tables [] t.bytes.now) t.blocks (digits t.blocks place) ≡ tests_in t place
+lent-bytes t place = tests-bytes t.words.now t.bytes.now t.blocks (digits t.blocks place)
