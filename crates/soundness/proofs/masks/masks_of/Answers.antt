@@ -66,7 +66,7 @@ factor c =
 
 pub loop-b-init : goal.loop-b-init
 loop-b-init c = record {
-  filled = fill-lent c.requires;
+  filled = fill-lent (cc);
   small = search rules;
   counted = count_of c.args.w.now ∙ sym (one-mul _);
   looked_for = λ label clouds none. cc;
