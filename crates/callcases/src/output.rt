@@ -64,7 +64,7 @@ fn cloud_digit(cloud: u8) -> u8 {
     if cloud < 10 { b'0' + cloud } else { b'?' }
 }
 
-// The digits of as many bytes are put at once: a loop over an array of known size is quick, and a call for each digit takes ten times as long.
+// The digits of as many bytes are put at once: with a call for each digit, cases that lend a buffer take more than twice as long.
 const HEX_PART: usize = 256;
 
 // Puts a space and the bytes in hexadecimal; nothing if there are none.

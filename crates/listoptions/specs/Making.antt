@@ -42,7 +42,7 @@ abbrev pub lines_in : (blocks : ℕ) → List ℕ → List ℕ
 lines_in blocks words = lines_of (min blocks 16) words
 
 abbrev pub page_text : (blocks : ℕ) → List ℕ → (k : ℕ) → List ℕ
-page_text blocks words k = lines_in blocks (take (page_rows * words_of_row) (drop (k * page_rows * words_of_row) words))
+page_text blocks words k = lines_in blocks (page_of words k)
 
 -- the line after the rows: their number, or why there are none
 abbrev pub last_line : Result (ℕ × ℕ) → List ℕ
